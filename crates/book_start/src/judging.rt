@@ -16,7 +16,7 @@ use error::Refusal;
 
 // What judging a start answers: it is good, with the units below the mark that belong to nobody; or the first fault, with its key, the
 // class of its free list or its desk; or a refusal.
-#[derive(Drop)]
+#[derive(Clone, Copy)]
 pub enum JudgeStart {
     Good(u64),
     KeyUnsound(u64),

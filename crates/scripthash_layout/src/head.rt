@@ -23,7 +23,7 @@ const SH_INLINE_CAP: u64 = 1;
 pub const SH_PREFIX_PAGE: u64 = 4096;
 
 // What a head word says of its key.
-#[derive(Drop)]
+#[derive(Clone, Copy)]
 pub enum ShHeadValue {
     // No number.
     Empty,

@@ -5,18 +5,18 @@ use borrow.Author.Tests.{lt-ltb, le-ltb, eq-eqb, ne_eqb}
 use Rattle.compact.proofs.passes_64_bits.Statement.{statement}
 use Rattle.compact.proofs.passes_64_bits.Tie as tie
 
-returns : tie.Need-returns
-returns c =
+returns-then-i-lt9 : tie.Need-returns-then-i-lt9
+returns-then-i-lt9 c =
     let i = c.before.args.i in
     rw (le-ltb 9 i (omega arith), ne_eqb i 9 (λ (e : i ≡ 9). omega arith))
 
-returns-2 : tie.Need-returns-2
-returns-2 c = rw (lt-ltb 9 c.before.before.args.i (omega arith))
+returns-then-i-gt9 : tie.Need-returns-then-i-gt9
+returns-then-i-gt9 c = rw (lt-ltb 9 c.before.before.args.i (omega arith))
 
-returns-3 : tie.Need-returns-3
-returns-3 c =
+returns : tie.Need-returns
+returns c =
     let i = c.before.before.args.i in
     rw (le-ltb 9 i (omega arith), eq-eqb i 9 (omega arith))
 
-pub passes-64-bits-spec : {M : Type 1} → statement M
-passes-64-bits-spec = tie.close (tie.spec returns returns-2 returns-3)
+pub passes_64_bits_spec : {M : Type 1} → statement M
+passes_64_bits_spec = tie.close (tie.spec returns-then-i-lt9 returns-then-i-gt9 returns)

@@ -5,63 +5,63 @@ use Rattle.compact.proofs.LawsWrite.{Writing, starts, inside, goes, ends}
 use Rattle.compact.proofs.put_uleb128.Statement.{statement}
 use Rattle.compact.proofs.put_uleb128.Tie as tie
 
-abbrev invariant_loop : tie.invariant_loop
+abbrev invariant_loop : tie.invariant-loop-rest
 invariant_loop dst₀ n rest₀ i₀ dst rest i = Writing dst₀ n dst rest i
 
-abbrev decreases_loop : tie.decreases_loop
+abbrev decreases_loop : tie.decreases-loop-rest
 decreases_loop dst₀ n rest₀ i₀ dst rest i = rest
 
-loop-holds : tie.Need-loop-init invariant_loop decreases_loop
-loop-holds c = starts c.args.dst.now c.args.n c.requires
+loop-rest-init : tie.Need-loop-rest-init invariant_loop decreases_loop
+loop-rest-init c = starts c.args.dst.now c.args.n c.requires
 
-cast-dst : tie.Need-overflow-cast-dst invariant_loop decreases_loop
-cast-dst c = search rules
+overflow_cast-dst : tie.Need-overflow_cast-dst invariant_loop decreases_loop
+overflow_cast-dst c = search rules
 
-add-dst : tie.Need-overflow-add-dst invariant_loop decreases_loop
-add-dst c = search rules
+overflow_add-dst : tie.Need-overflow_add-dst invariant_loop decreases_loop
+overflow_add-dst c = search rules
 
-slice-write-dst : tie.Need-slice-write-dst invariant_loop decreases_loop
-slice-write-dst c = inside c.before.loop.invariant
+bounds-dst-i : tie.Need-bounds-dst-i invariant_loop decreases_loop
+bounds-dst-i c = inside c.before.loop-rest.invariant
 
-add-i : tie.Need-overflow-add-i invariant_loop decreases_loop
-add-i c = search rules
+overflow_add-i : tie.Need-overflow_add-i invariant_loop decreases_loop
+overflow_add-i c = search rules
 
-loop-less : tie.Need-loop-smaller invariant_loop decreases_loop
-loop-less c = search rules
+loop-rest-smaller : tie.Need-loop-rest-smaller invariant_loop decreases_loop
+loop-rest-smaller c = search rules
 
-loop-again : tie.Need-loop-preserved invariant_loop decreases_loop
-loop-again c = goes c.before.loop.invariant (omega arith)
+loop-rest-preserved : tie.Need-loop-rest-preserved invariant_loop decreases_loop
+loop-rest-preserved c = goes c.before.loop-rest.invariant (omega arith)
 
-cast-dst-2 : tie.Need-overflow-cast-dst-2 invariant_loop decreases_loop
-cast-dst-2 c = search rules
+overflow_cast-dst-2 : tie.Need-overflow_cast-dst-2 invariant_loop decreases_loop
+overflow_cast-dst-2 c = search rules
 
-slice-write-dst-2 : tie.Need-slice-write-dst-2 invariant_loop decreases_loop
-slice-write-dst-2 c = inside c.before.loop.invariant
+bounds-dst-i-2 : tie.Need-bounds-dst-i-2 invariant_loop decreases_loop
+bounds-dst-i-2 c = inside c.before.loop-rest.invariant
 
-add-result : tie.Need-overflow-add-result invariant_loop decreases_loop
-add-result c = search rules
+overflow_add-result : tie.Need-overflow_add-result invariant_loop decreases_loop
+overflow_add-result c = search rules
 
-same_length : tie.Need-same-length invariant_loop decreases_loop
-same_length c = search rules
+shape_of-dst : tie.Need-shape_of-dst invariant_loop decreases_loop
+shape_of-dst c = search rules
 
 returns : tie.Need-returns invariant_loop decreases_loop
-returns c = ends c.before.loop.invariant (omega arith)
+returns c = ends c.before.loop-rest.invariant (omega arith)
 
-pub put-uleb128-spec : {M : Type 1} → statement M
-put-uleb128-spec =
+pub put_uleb128_spec : {M : Type 1} → statement M
+put_uleb128_spec =
     tie.close
     (tie.spec
     invariant_loop
     decreases_loop
-    loop-holds
-    cast-dst
-    add-dst
-    slice-write-dst
-    add-i
-    loop-less
-    loop-again
-    cast-dst-2
-    slice-write-dst-2
-    add-result
-    same_length
+    loop-rest-init
+    overflow_cast-dst
+    overflow_add-dst
+    bounds-dst-i
+    overflow_add-i
+    loop-rest-smaller
+    loop-rest-preserved
+    overflow_cast-dst-2
+    bounds-dst-i-2
+    overflow_add-result
+    shape_of-dst
     returns)

@@ -17,13 +17,13 @@ reading : (r : Reading) {v l : ℕ} {s : Bool} → v ≡ r.value → l ≡ r.len
     → record { value = v; len = l; shortest = s } ≡ number_read r
 reading r e f g = rw (e, f, g)
 
-read-form-requires : tie.Need-read-form-requires
-read-form-requires c κs = search rules
+read_form-number-requires : tie.Need-read_form-number-requires
+read_form-number-requires c κs = search rules
 
-returns : tie.Need-returns
-returns c =
+returns-then-number-eq0 : tie.Need-returns-then-number-eq0
+returns-then-number-eq0 c =
     let bytes = c.before.before.before.before.before.before.args.buf.now in
-    let e = c.before.read_form.ensures in
+    let e = c.before.read_form-number.ensures in
     let zero : refusal_of (read_uleb bytes) ≡ 0 = omega arith in
     let got = out_accepted (read_uleb bytes) (read_refused bytes) zero in
     ap accepted (reading got.0 (e.1.0 ∙ sym (value_accepted (λ x. x.value) _ got.1)) (e.1.1.0
@@ -31,12 +31,12 @@ returns c =
     (e.1.1.1 ∙ sym (value_accepted (λ x. not (padded x)) _ got.1)))
     ∙ sym (answered_yes number_read (read_uleb bytes) got.1)
 
-returns-2 : tie.Need-returns-2
-returns-2 c =
+returns : tie.Need-returns
+returns c =
     let bytes = c.before.before.before.before.before.before.args.buf.now in
-    let e = c.before.read_form.ensures.0 in
+    let e = c.before.read_form-number.ensures.0 in
     let no = out_refused (read_uleb bytes) (λ (z : refusal_of (read_uleb bytes) ≡ 0). omega arith) in
     ap refused e ∙ sym (answered_no number_read (read_uleb bytes) (sym no))
 
-pub read-uleb128-spec : {M : Type 1} → statement M
-read-uleb128-spec = tie.close (tie.spec read-form-requires returns returns-2)
+pub read_uleb128_spec : {M : Type 1} → statement M
+read_uleb128_spec = tie.close (tie.spec read_form-number-requires returns-then-number-eq0 returns)

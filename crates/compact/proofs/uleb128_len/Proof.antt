@@ -27,14 +27,14 @@ ends : T (every_below right 65)
 unfolding every_below right uleb_len divided
 ends = tt
 
-mul-result : tie.Need-overflow-mul-result
-mul-result c = omega (arith, leading_le 64 c.args.n)
+overflow_mul-result : tie.Need-overflow_mul-result
+overflow_mul-result c = omega (arith, leading_le 64 c.args.n)
 
-sub-result : tie.Need-overflow-sub-result
-sub-result c = omega (arith, leading_le 64 c.args.n)
+overflow_sub-result : tie.Need-overflow_sub-result
+overflow_sub-result c = omega (arith, leading_le 64 c.args.n)
 
-cast-result : tie.Need-overflow-cast-result
-cast-result c = search rules
+overflow_cast-result : tie.Need-overflow_cast-result
+overflow_cast-result c = search rules
 
 returns : tie.Need-returns
 unfolding right
@@ -52,5 +52,5 @@ returns c =
     (le_trans (le_of_eq (sym (eqb→eq (uleb_len (2 ^ m / 2)) (computed m) both.0))) low)
     (le_trans high (le_of_eq (eqb→eq (uleb_len (2 ^ m - 1)) (computed m) both.1))))
 
-pub uleb128-len-spec : {M : Type 1} → statement M
-uleb128-len-spec = tie.close (tie.spec mul-result sub-result cast-result returns)
+pub uleb128_len_spec : {M : Type 1} → statement M
+uleb128_len_spec = tie.close (tie.spec overflow_mul-result overflow_sub-result overflow_cast-result returns)

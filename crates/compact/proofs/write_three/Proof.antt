@@ -14,40 +14,40 @@ use Rattle.compact.proofs.write_three.Tie as tie
 three : (n : ℕ) → 16384 ≤ n → n < 2097152 → uleb_len n ≡ 3
 three n h k = rw (len_large n (omega arith), len_two (n / 128) (omega arith) (omega arith))
 
-returns : tie.Need-returns
-returns c =
+returns-then-dst-lt3 : tie.Need-returns-then-dst-lt3
+returns-then-dst-lt3 c =
     let s = c.before in
     refuses s.args.dst.now s.args.n (omega (arith, three s.args.n s.requires.0 s.requires.1))
 
-cast-dst : tie.Need-overflow-cast-dst
-cast-dst c = search rules
+overflow_cast-dst : tie.Need-overflow_cast-dst
+overflow_cast-dst c = search rules
 
-add-dst : tie.Need-overflow-add-dst
-add-dst c = search rules
+overflow_add-dst : tie.Need-overflow_add-dst
+overflow_add-dst c = search rules
 
-slice-write-dst : tie.Need-slice-write-dst
-slice-write-dst c = search rules
+bounds-dst-0 : tie.Need-bounds-dst-0
+bounds-dst-0 c = search rules
 
-cast-dst-2 : tie.Need-overflow-cast-dst-2
-cast-dst-2 c = search rules
+overflow_cast-dst-2 : tie.Need-overflow_cast-dst-2
+overflow_cast-dst-2 c = search rules
 
-add-dst-2 : tie.Need-overflow-add-dst-2
-add-dst-2 c = search rules
+overflow_add-dst-2 : tie.Need-overflow_add-dst-2
+overflow_add-dst-2 c = search rules
 
-slice-write-dst-2 : tie.Need-slice-write-dst-2
-slice-write-dst-2 c = simp length-set (omega arith)
+bounds-dst-1 : tie.Need-bounds-dst-1
+bounds-dst-1 c = simp length-set (omega arith)
 
-cast-dst-3 : tie.Need-overflow-cast-dst-3
-cast-dst-3 c = search rules
+overflow_cast-dst-3 : tie.Need-overflow_cast-dst-3
+overflow_cast-dst-3 c = search rules
 
-slice-write-dst-3 : tie.Need-slice-write-dst-3
-slice-write-dst-3 c = simp length-set (omega arith)
+bounds-dst-2 : tie.Need-bounds-dst-2
+bounds-dst-2 c = simp length-set (omega arith)
 
-same_length : tie.Need-same-length
-same_length c = search rules
+shape_of-dst : tie.Need-shape_of-dst
+shape_of-dst c = search rules
 
-returns-2 : tie.Need-returns-2
-returns-2 c =
+returns : tie.Need-returns
+returns c =
     let s = c.before in
     let n = s.args.n in
     let fits : uleb_len n ≤ length s.args.dst.now = omega (arith, three n s.requires.0 s.requires.1) in
@@ -55,18 +55,18 @@ returns-2 c =
     rw top (written (goes (goes (starts s.args.dst.now n fits) (omega (arith, s.requires.0))) (omega (arith, s.requires.0)))
     (omega (arith, s.requires.1)))
 
-pub write-three-spec : {M : Type 1} → statement M
-write-three-spec =
+pub write_three_spec : {M : Type 1} → statement M
+write_three_spec =
     tie.close
     (tie.spec
-    returns
-    cast-dst
-    add-dst
-    slice-write-dst
-    cast-dst-2
-    add-dst-2
-    slice-write-dst-2
-    cast-dst-3
-    slice-write-dst-3
-    same_length
-    returns-2)
+    returns-then-dst-lt3
+    overflow_cast-dst
+    overflow_add-dst
+    bounds-dst-0
+    overflow_cast-dst-2
+    overflow_add-dst-2
+    bounds-dst-1
+    overflow_cast-dst-3
+    bounds-dst-2
+    shape_of-dst
+    returns)

@@ -6,67 +6,67 @@ use Rattle.compact.proofs.LawsWrite.{starts, goes, written}
 use Rattle.compact.proofs.write_two.Statement.{statement}
 use Rattle.compact.proofs.write_two.Tie as tie
 
-write-byte-requires : tie.Need-write-byte-requires
-write-byte-requires c κs = search rules
+write_byte-requires : tie.Need-write_byte-requires
+write_byte-requires c κs = search rules
 
-same_length : tie.Need-same-length
-same_length c = search rules
+shape_of-dst-then-dst-lt2 : tie.Need-shape_of-dst-then-dst-lt2
+shape_of-dst-then-dst-lt2 c = search rules
 
-returns : tie.Need-returns
-returns c = search rules
+returns-then-dst-lt2 : tie.Need-returns-then-dst-lt2
+returns-then-dst-lt2 c = search rules
 
-cast-dst : tie.Need-overflow-cast-dst
-cast-dst c = search rules
+overflow_cast-dst : tie.Need-overflow_cast-dst
+overflow_cast-dst c = search rules
 
-slice-write-dst : tie.Need-slice-write-dst
-slice-write-dst c = search rules
+bounds-dst-0 : tie.Need-bounds-dst-0
+bounds-dst-0 c = search rules
 
-same-length-2 : tie.Need-same-length-2
-same-length-2 c = search rules
+shape_of-dst-then-n-lt128 : tie.Need-shape_of-dst-then-n-lt128
+shape_of-dst-then-n-lt128 c = search rules
 
-returns-2 : tie.Need-returns-2
-returns-2 c =
+returns-then-n-lt128 : tie.Need-returns-then-n-lt128
+returns-then-n-lt128 c =
     let a = c.before.before.before.args in
     written (starts a.dst.now a.n (omega (arith, len_small a.n (omega arith)))) (omega arith)
 
-cast-dst-2 : tie.Need-overflow-cast-dst-2
-cast-dst-2 c = search rules
+overflow_cast-dst-2 : tie.Need-overflow_cast-dst-2
+overflow_cast-dst-2 c = search rules
 
-add-dst : tie.Need-overflow-add-dst
-add-dst c = search rules
+overflow_add-dst : tie.Need-overflow_add-dst
+overflow_add-dst c = search rules
 
-slice-write-dst-2 : tie.Need-slice-write-dst-2
-slice-write-dst-2 c = search rules
+bounds-dst-0-2 : tie.Need-bounds-dst-0-2
+bounds-dst-0-2 c = search rules
 
-cast-dst-3 : tie.Need-overflow-cast-dst-3
-cast-dst-3 c = search rules
+overflow_cast-dst-3 : tie.Need-overflow_cast-dst-3
+overflow_cast-dst-3 c = search rules
 
-slice-write-dst-3 : tie.Need-slice-write-dst-3
-slice-write-dst-3 c = search rules
+bounds-dst-1 : tie.Need-bounds-dst-1
+bounds-dst-1 c = search rules
 
-same-length-3 : tie.Need-same-length-3
-same-length-3 c = search rules
+shape_of-dst : tie.Need-shape_of-dst
+shape_of-dst c = search rules
 
-returns-3 : tie.Need-returns-3
-returns-3 c =
+returns : tie.Need-returns
+returns c =
     let a = c.before.before.before.args in
     written (goes (starts a.dst.now a.n (omega (arith, len_two a.n (omega arith) (omega arith)))) (omega arith)) (omega arith)
 
-pub write-two-spec : {M : Type 1} → statement M
-write-two-spec =
+pub write_two_spec : {M : Type 1} → statement M
+write_two_spec =
     tie.close
     (tie.spec
-    write-byte-requires
-    same_length
-    returns
-    cast-dst
-    slice-write-dst
-    same-length-2
-    returns-2
-    cast-dst-2
-    add-dst
-    slice-write-dst-2
-    cast-dst-3
-    slice-write-dst-3
-    same-length-3
-    returns-3)
+    write_byte-requires
+    shape_of-dst-then-dst-lt2
+    returns-then-dst-lt2
+    overflow_cast-dst
+    bounds-dst-0
+    shape_of-dst-then-n-lt128
+    returns-then-n-lt128
+    overflow_cast-dst-2
+    overflow_add-dst
+    bounds-dst-0-2
+    overflow_cast-dst-3
+    bounds-dst-1
+    shape_of-dst
+    returns)

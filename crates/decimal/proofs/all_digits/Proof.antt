@@ -12,10 +12,10 @@ use Rattle.decimal.proofs.LawsDecimal.{digits_step}
 use Rattle.decimal.proofs.all_digits.Statement.{statement}
 use Rattle.decimal.proofs.all_digits.Tie as tie
 
-abbrev invariant_loop : tie.invariant_loop
+abbrev invariant_loop : tie.invariant-loop-i
 invariant_loop word i₀ i = (i ≤ length word) × (all_digits (drop i word) ≡ all_digits word)
 
-abbrev decreases_loop : tie.decreases_loop
+abbrev decreases_loop : tie.decreases-loop-i
 decreases_loop word i₀ i = length word - i
 
 -- behind the last byte there is nothing to test
@@ -23,51 +23,51 @@ ends : (word : List ℕ) (i : ℕ) → length word ≤ i → all_digits (drop i 
 unfolding all_digits
 ends word i h e = ap all_digits (sym (drop_of_length-le word h)) ∙ e
 
-loop-holds : tie.Need-loop-init invariant_loop decreases_loop
-loop-holds c = (omega arith, refl)
+loop-i-init : tie.Need-loop-i-init invariant_loop decreases_loop
+loop-i-init c = (omega arith, refl)
 
-shared-slice-read-is-digit : tie.Need-shared-slice-read-is-digit invariant_loop decreases_loop
-shared-slice-read-is-digit c = search rules
+bounds-word-i : tie.Need-bounds-word-i invariant_loop decreases_loop
+bounds-word-i c = search rules
 
-is-digit-requires : tie.Need-is-digit-requires invariant_loop decreases_loop
-is-digit-requires c κs = search rules
+is_digit-requires : tie.Need-is_digit-requires invariant_loop decreases_loop
+is_digit-requires c κs = search rules
 
-returns : tie.Need-returns invariant_loop decreases_loop
-returns c =
+returns-then-not-is_digit : tie.Need-returns-then-not-is_digit invariant_loop decreases_loop
+returns-then-not-is_digit c =
     let l = c.before.before.before.before in
-    let digit = sym c.before.is_digit.ensures ∙ not-true c.before.is_digit.result c.if1.true in
-    sym (sym l.loop.invariant.1 ∙ digits_step l.before.before.args.word.now l.loop.i c.before.before.before.loop-test.true
+    let digit = sym c.before.is_digit.ensures ∙ not-true c.before.is_digit.result c.if-not-is_digit.true in
+    sym (sym l.loop-i.invariant.1 ∙ digits_step l.before.before.args.word.now l.loop-i.i c.before.before.before.loop-i-test.true
     ∙ simp digit)
 
-add-i : tie.Need-overflow-add-i invariant_loop decreases_loop
-add-i c = search rules
+overflow_add-i : tie.Need-overflow_add-i invariant_loop decreases_loop
+overflow_add-i c = search rules
 
-loop-less : tie.Need-loop-smaller invariant_loop decreases_loop
-loop-less c = search rules
+loop-i-smaller : tie.Need-loop-i-smaller invariant_loop decreases_loop
+loop-i-smaller c = search rules
 
-loop-again : tie.Need-loop-preserved invariant_loop decreases_loop
-loop-again c =
+loop-i-preserved : tie.Need-loop-i-preserved invariant_loop decreases_loop
+loop-i-preserved c =
     let l = c.before.before.before.before in
-    let digit = sym c.before.is_digit.ensures ∙ not-false c.before.is_digit.result c.if1.false in (
+    let digit = sym c.before.is_digit.ensures ∙ not-false c.before.is_digit.result c.if-not-is_digit.false in (
       omega arith,
-      sym (digits_step l.before.before.args.word.now l.loop.i c.before.before.before.loop-test.true ∙ simp digit)
-          ∙ l.loop.invariant.1,
+      sym (digits_step l.before.before.args.word.now l.loop-i.i c.before.before.before.loop-i-test.true ∙ simp digit)
+          ∙ l.loop-i.invariant.1,
     )
 
-returns-2 : tie.Need-returns-2 invariant_loop decreases_loop
-returns-2 c = ends c.before.before.before.args.word.now c.before.loop.i (omega arith) c.before.loop.invariant.1
+returns : tie.Need-returns invariant_loop decreases_loop
+returns c = ends c.before.before.before.args.word.now c.before.loop-i.i (omega arith) c.before.loop-i.invariant.1
 
-pub all-digits-spec : {M : Type 1} → statement M
-all-digits-spec =
+pub all_digits_spec : {M : Type 1} → statement M
+all_digits_spec =
     tie.close
     (tie.spec
     invariant_loop
     decreases_loop
-    loop-holds
-    shared-slice-read-is-digit
-    is-digit-requires
-    returns
-    add-i
-    loop-less
-    loop-again
-    returns-2)
+    loop-i-init
+    bounds-word-i
+    is_digit-requires
+    returns-then-not-is_digit
+    overflow_add-i
+    loop-i-smaller
+    loop-i-preserved
+    returns)

@@ -25,26 +25,26 @@ unfolding read_decimal is_number
 others [] t h e = absurd (h refl)
 others (b ∷ bs) t h e = ap (λ (u : Bool). cond u (in64_bits (value_of (b ∷ bs))) NotANumber) e
 
-all-digits-requires : tie.Need-all-digits-requires
-all-digits-requires c κs = search rules
+all_digits-requires : tie.Need-all_digits-requires
+all_digits-requires c κs = search rules
+
+returns-then-word-eq0 : tie.Need-returns-then-word-eq0
+returns-then-word-eq0 c = empty c.before.before.args.word.now c.if-word-eq0.true
+
+returns-then-not-all_digits : tie.Need-returns-then-not-all_digits
+returns-then-not-all_digits c =
+    sym (others c.before.before.before.before.args.word.now false c.before.before.if-word-eq0.false
+    (sym c.before.all_digits.ensures ∙ not-true c.before.all_digits.result c.if-not-all_digits.true))
+
+value_of-requires : tie.Need-value_of-requires
+value_of-requires c κs = search rules
 
 returns : tie.Need-returns
-returns c = empty c.before.before.args.word.now c.if1.true
-
-returns-2 : tie.Need-returns-2
-returns-2 c =
-    sym (others c.before.before.before.before.args.word.now false c.before.before.if1.false
-    (sym c.before.all_digits.ensures ∙ not-true c.before.all_digits.result c.if2.true))
-
-value-of-requires : tie.Need-value-of-requires
-value-of-requires c κs = search rules
-
-returns-3 : tie.Need-returns-3
-returns-3 c =
+returns c =
     let e = c.before in
     c.value_of_lem.ensures
-    ∙ sym (others e.before.before.before.before.args.word.now true e.before.before.if1.false
-    (sym e.before.all_digits.ensures ∙ not-false e.before.all_digits.result e.if2.false))
+    ∙ sym (others e.before.before.before.before.args.word.now true e.before.before.if-word-eq0.false
+    (sym e.before.all_digits.ensures ∙ not-false e.before.all_digits.result e.if-not-all_digits.false))
 
-pub read-decimal-spec : {M : Type 1} → statement M
-read-decimal-spec = tie.close (tie.spec returns all-digits-requires returns-2 value-of-requires returns-3)
+pub read_decimal_spec : {M : Type 1} → statement M
+read_decimal_spec = tie.close (tie.spec returns-then-word-eq0 all_digits-requires returns-then-not-all_digits value_of-requires returns)

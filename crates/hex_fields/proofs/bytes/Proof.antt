@@ -3,61 +3,61 @@ use Rattle.std.proofs.Common.{◌≡◌, ◌-◌, ◌≤◌, length, rules}
 use Rattle.hex_fields.proofs.bytes.Statement.{statement}
 use Rattle.hex_fields.proofs.bytes.Tie as tie
 use Rattle.hex_fields.proofs.byte_at.Reads as byte-at-reads
-use Rattle.hex_fields.proofs.put_bytes.Reads as put-bytes-reads
+use Rattle.hex_fields.proofs.put_bytes-k.Reads as put-bytes-reads
 
-abbrev invariant_loop : tie.invariant_loop
+abbrev invariant_loop : tie.invariant-loop-at
 invariant_loop s out₀ at₀ k₀ out at k = (length out ≡ length out₀) × (at ≤ length s)
 
-abbrev decreases_loop : tie.decreases_loop
+abbrev decreases_loop : tie.decreases-loop-at
 decreases_loop s out₀ at₀ k₀ out at k = length s - at
 
-loop-holds : tie.Need-loop-init invariant_loop decreases_loop
-loop-holds c = search rules
+loop-at-init : tie.Need-loop-at-init invariant_loop decreases_loop
+loop-at-init c = search rules
 
-sub-loop : tie.Need-overflow-sub-loop invariant_loop decreases_loop
-sub-loop c = search rules
+overflow_sub-s : tie.Need-overflow_sub-s invariant_loop decreases_loop
+overflow_sub-s c = search rules
 
-byte-at-requires : tie.Need-byte-at-requires invariant_loop decreases_loop
-byte-at-requires c κs = search rules
+byte_at-requires : tie.Need-byte_at-requires invariant_loop decreases_loop
+byte_at-requires c κs = search rules
 
-add-byte-at : tie.Need-overflow-add-byte-at invariant_loop decreases_loop
-add-byte-at c = search rules
+overflow_add-at : tie.Need-overflow_add-at invariant_loop decreases_loop
+overflow_add-at c = search rules
 
-byte-at-requires-2 : tie.Need-byte-at-requires-2 invariant_loop decreases_loop
-byte-at-requires-2 c κs = search rules
+byte_at-requires-in-loop-at : tie.Need-byte_at-requires-in-loop-at invariant_loop decreases_loop
+byte_at-requires-in-loop-at c κs = search rules
 
-put-bytes-requires : tie.Need-put-bytes-requires invariant_loop decreases_loop
-put-bytes-requires c κs = search rules
+put_bytes-k-requires : tie.Need-put_bytes-k-requires invariant_loop decreases_loop
+put_bytes-k-requires c κs = search rules
 
-add_at : tie.Need-overflow-add-at invariant_loop decreases_loop
-add_at c = search rules
+overflow_add-at-in-loop-at : tie.Need-overflow_add-at-in-loop-at invariant_loop decreases_loop
+overflow_add-at-in-loop-at c = search rules
 
-loop-less : tie.Need-loop-smaller invariant_loop decreases_loop
-loop-less c = search rules
+loop-at-smaller : tie.Need-loop-at-smaller invariant_loop decreases_loop
+loop-at-smaller c = search rules
 
-loop-again : tie.Need-loop-preserved invariant_loop decreases_loop
-loop-again c = search rules
+loop-at-preserved : tie.Need-loop-at-preserved invariant_loop decreases_loop
+loop-at-preserved c = search rules
 
-same_length : tie.Need-same-length invariant_loop decreases_loop
-same_length c = search rules
+shape_of-out : tie.Need-shape_of-out invariant_loop decreases_loop
+shape_of-out c = search rules
 
 returns : tie.Need-returns invariant_loop decreases_loop
 returns c = search rules
 
-pub bytes-spec : {M : Type 1} → statement M
-bytes-spec =
+pub bytes_spec : {M : Type 1} → statement M
+bytes_spec =
     tie.close
     (tie.spec
     invariant_loop
     decreases_loop
-    loop-holds
-    sub-loop
-    byte-at-requires
-    add-byte-at
-    byte-at-requires-2
-    put-bytes-requires
-    add_at
-    loop-less
-    loop-again
-    same_length
+    loop-at-init
+    overflow_sub-s
+    byte_at-requires
+    overflow_add-at
+    byte_at-requires-in-loop-at
+    put_bytes-k-requires
+    overflow_add-at-in-loop-at
+    loop-at-smaller
+    loop-at-preserved
+    shape_of-out
     returns)

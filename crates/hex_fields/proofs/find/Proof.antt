@@ -3,32 +3,32 @@ use Rattle.std.proofs.Common.{◌≡◌, ◌-◌, ◌≤◌, length, rules}
 use Rattle.hex_fields.proofs.find.Statement.{statement}
 use Rattle.hex_fields.proofs.find.Tie as tie
 
-abbrev invariant_loop : tie.invariant_loop
+abbrev invariant_loop : tie.invariant-loop-i
 invariant_loop s b i₀ i = i ≤ length s
 
-abbrev decreases_loop : tie.decreases_loop
+abbrev decreases_loop : tie.decreases-loop-i
 decreases_loop s b i₀ i = length s - i
 
-loop-holds : tie.Need-loop-init invariant_loop decreases_loop
-loop-holds c = search rules
+loop-i-init : tie.Need-loop-i-init invariant_loop decreases_loop
+loop-i-init c = search rules
 
-shared-slice-read-if1 : tie.Need-shared-slice-read-if1 invariant_loop decreases_loop
-shared-slice-read-if1 c = search rules
+bounds-s-i : tie.Need-bounds-s-i invariant_loop decreases_loop
+bounds-s-i c = search rules
+
+returns-then-s-i : tie.Need-returns-then-s-i invariant_loop decreases_loop
+returns-then-s-i c = search rules
+
+overflow_add-i : tie.Need-overflow_add-i invariant_loop decreases_loop
+overflow_add-i c = search rules
+
+loop-i-smaller : tie.Need-loop-i-smaller invariant_loop decreases_loop
+loop-i-smaller c = search rules
+
+loop-i-preserved : tie.Need-loop-i-preserved invariant_loop decreases_loop
+loop-i-preserved c = search rules
 
 returns : tie.Need-returns invariant_loop decreases_loop
 returns c = search rules
-
-add-i : tie.Need-overflow-add-i invariant_loop decreases_loop
-add-i c = search rules
-
-loop-less : tie.Need-loop-smaller invariant_loop decreases_loop
-loop-less c = search rules
-
-loop-again : tie.Need-loop-preserved invariant_loop decreases_loop
-loop-again c = search rules
-
-returns-2 : tie.Need-returns-2 invariant_loop decreases_loop
-returns-2 c = search rules
 
 pub find_spec : {M : Type 1} → statement M
 find_spec =
@@ -36,10 +36,10 @@ find_spec =
     (tie.spec
     invariant_loop
     decreases_loop
-    loop-holds
-    shared-slice-read-if1
-    returns
-    add-i
-    loop-less
-    loop-again
-    returns-2)
+    loop-i-init
+    bounds-s-i
+    returns-then-s-i
+    overflow_add-i
+    loop-i-smaller
+    loop-i-preserved
+    returns)

@@ -3,55 +3,55 @@ use Rattle.std.proofs.Common.{◌≡◌, ◌-◌, length, rules}
 use Rattle.hex_fields.proofs.put_bytes.Statement.{statement}
 use Rattle.hex_fields.proofs.put_bytes.Tie as tie
 
-abbrev invariant_loop : tie.invariant_loop
+abbrev invariant_loop : tie.invariant-loop-k
 invariant_loop out₀ from more b left₀ k₀ out left k = length out ≡ length out₀
 
-abbrev decreases_loop : tie.decreases_loop
+abbrev decreases_loop : tie.decreases-loop-k
 decreases_loop out₀ from more b left₀ k₀ out left k = length out₀ - k
 
-loop-holds : tie.Need-loop-init invariant_loop decreases_loop
-loop-holds c = search rules
+loop-k-init : tie.Need-loop-k-init invariant_loop decreases_loop
+loop-k-init c = search rules
 
-slice-write-out : tie.Need-slice-write-out invariant_loop decreases_loop
-slice-write-out c = search rules
+bounds-out-k : tie.Need-bounds-out-k invariant_loop decreases_loop
+bounds-out-k c = search rules
 
-add-k : tie.Need-overflow-add-k invariant_loop decreases_loop
-add-k c = search rules
+overflow_add-k : tie.Need-overflow_add-k invariant_loop decreases_loop
+overflow_add-k c = search rules
 
-same_length : tie.Need-same-length invariant_loop decreases_loop
-same_length c = search rules
+shape_of-out-then-left-eq0 : tie.Need-shape_of-out-then-left-eq0 invariant_loop decreases_loop
+shape_of-out-then-left-eq0 c = search rules
+
+returns-then-left-eq0 : tie.Need-returns-then-left-eq0 invariant_loop decreases_loop
+returns-then-left-eq0 c = search rules
+
+overflow_sub-left : tie.Need-overflow_sub-left invariant_loop decreases_loop
+overflow_sub-left c = search rules
+
+loop-k-smaller : tie.Need-loop-k-smaller invariant_loop decreases_loop
+loop-k-smaller c = search rules
+
+loop-k-preserved : tie.Need-loop-k-preserved invariant_loop decreases_loop
+loop-k-preserved c = search rules
+
+shape_of-out : tie.Need-shape_of-out invariant_loop decreases_loop
+shape_of-out c = search rules
 
 returns : tie.Need-returns invariant_loop decreases_loop
 returns c = search rules
 
-sub-left : tie.Need-overflow-sub-left invariant_loop decreases_loop
-sub-left c = search rules
-
-loop-less : tie.Need-loop-smaller invariant_loop decreases_loop
-loop-less c = search rules
-
-loop-again : tie.Need-loop-preserved invariant_loop decreases_loop
-loop-again c = search rules
-
-same-length-2 : tie.Need-same-length-2 invariant_loop decreases_loop
-same-length-2 c = search rules
-
-returns-2 : tie.Need-returns-2 invariant_loop decreases_loop
-returns-2 c = search rules
-
-pub put-bytes-spec : {M : Type 1} → statement M
-put-bytes-spec =
+pub put_bytes_spec : {M : Type 1} → statement M
+put_bytes_spec =
     tie.close
     (tie.spec
     invariant_loop
     decreases_loop
-    loop-holds
-    slice-write-out
-    add-k
-    same_length
-    returns
-    sub-left
-    loop-less
-    loop-again
-    same-length-2
-    returns-2)
+    loop-k-init
+    bounds-out-k
+    overflow_add-k
+    shape_of-out-then-left-eq0
+    returns-then-left-eq0
+    overflow_sub-left
+    loop-k-smaller
+    loop-k-preserved
+    shape_of-out
+    returns)

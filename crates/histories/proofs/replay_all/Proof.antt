@@ -3,17 +3,17 @@ use Rattle.std.proofs.Common.{◌-◌, ◌≤◌, length, rules}
 use Rattle.histories.proofs.replay_all.Statement.{statement}
 use Rattle.histories.proofs.replay_all.Tie as tie
 
-abbrev invariant_loop : tie.invariant_loop
+abbrev invariant_loop : tie.invariant-loop-at
 invariant_loop text body₀ wanted₀ words₀ count₀ at₀ body wanted words count at = at ≤ length text
 
-abbrev decreases_loop : tie.decreases_loop
+abbrev decreases_loop : tie.decreases-loop-at
 decreases_loop text body₀ wanted₀ words₀ count₀ at₀ body wanted words count at = length text - at
 
-loop-holds : tie.Need-loop-init invariant_loop decreases_loop
-loop-holds c = search rules
+loop-at-init : tie.Need-loop-at-init invariant_loop decreases_loop
+loop-at-init c = search rules
 
-until-requires : tie.Need-until-requires invariant_loop decreases_loop
-until-requires c κs = search rules
+until-s-requires : tie.Need-until-s-requires invariant_loop decreases_loop
+until-s-requires c κs = search rules
 
 find-requires : tie.Need-find-requires invariant_loop decreases_loop
 find-requires c κs = search rules
@@ -24,54 +24,54 @@ part-requires c κs = search rules
 show-requires : tie.Need-show-requires invariant_loop decreases_loop
 show-requires c κs = search rules
 
+returns-then-find-eq0 : tie.Need-returns-then-find-eq0 invariant_loop decreases_loop
+returns-then-find-eq0 c = search rules
+
+replay-agrees-requires : tie.Need-replay-agrees-requires invariant_loop decreases_loop
+replay-agrees-requires c κs = search rules
+
+counted-count-requires : tie.Need-counted-count-requires invariant_loop decreases_loop
+counted-count-requires c κs = search rules
+
+overflow_sub-text : tie.Need-overflow_sub-text invariant_loop decreases_loop
+overflow_sub-text c = search rules
+
+returns-then-text-at : tie.Need-returns-then-text-at invariant_loop decreases_loop
+returns-then-text-at c = search rules
+
+overflow_add-at : tie.Need-overflow_add-at invariant_loop decreases_loop
+overflow_add-at c = search rules
+
+overflow_add-at-in-loop-at : tie.Need-overflow_add-at-in-loop-at invariant_loop decreases_loop
+overflow_add-at-in-loop-at c = search rules
+
+loop-at-smaller : tie.Need-loop-at-smaller invariant_loop decreases_loop
+loop-at-smaller c = search rules
+
+loop-at-preserved : tie.Need-loop-at-preserved invariant_loop decreases_loop
+loop-at-preserved c = search rules
+
 returns : tie.Need-returns invariant_loop decreases_loop
 returns c = search rules
 
-replay-requires : tie.Need-replay-requires invariant_loop decreases_loop
-replay-requires c κs = search rules
-
-counted-requires : tie.Need-counted-requires invariant_loop decreases_loop
-counted-requires c κs = search rules
-
-sub-if2 : tie.Need-overflow-sub-if2 invariant_loop decreases_loop
-sub-if2 c = search rules
-
-returns-2 : tie.Need-returns-2 invariant_loop decreases_loop
-returns-2 c = search rules
-
-add_at : tie.Need-overflow-add-at invariant_loop decreases_loop
-add_at c = search rules
-
-add-at-2 : tie.Need-overflow-add-at-2 invariant_loop decreases_loop
-add-at-2 c = search rules
-
-loop-less : tie.Need-loop-smaller invariant_loop decreases_loop
-loop-less c = search rules
-
-loop-again : tie.Need-loop-preserved invariant_loop decreases_loop
-loop-again c = search rules
-
-returns-3 : tie.Need-returns-3 invariant_loop decreases_loop
-returns-3 c = search rules
-
-pub replay-all-spec : {M : Type 1} → statement M
-replay-all-spec =
+pub replay_all_spec : {M : Type 1} → statement M
+replay_all_spec =
     tie.close
     (tie.spec
     invariant_loop
     decreases_loop
-    loop-holds
-    until-requires
+    loop-at-init
+    until-s-requires
     find-requires
     part-requires
     show-requires
-    returns
-    replay-requires
-    counted-requires
-    sub-if2
-    returns-2
-    add_at
-    add-at-2
-    loop-less
-    loop-again
-    returns-3)
+    returns-then-find-eq0
+    replay-agrees-requires
+    counted-count-requires
+    overflow_sub-text
+    returns-then-text-at
+    overflow_add-at
+    overflow_add-at-in-loop-at
+    loop-at-smaller
+    loop-at-preserved
+    returns)

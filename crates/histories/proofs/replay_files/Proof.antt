@@ -3,55 +3,55 @@ use Rattle.std.proofs.Common.{◌≡◌, ◌-◌, ◌≤◌, length, rules}
 use Rattle.histories.proofs.replay_files.Statement.{statement}
 use Rattle.histories.proofs.replay_files.Tie as tie
 
-abbrev invariant_loop : tie.invariant_loop
+abbrev invariant_loop : tie.invariant-loop-k
 invariant_loop text₀ k₀ text k = (length text ≡ length text₀) × (k ≤ 10)
 
-abbrev decreases_loop : tie.decreases_loop
+abbrev decreases_loop : tie.decreases-loop-k
 decreases_loop text₀ k₀ text k = 10 - k
 
-loop-holds : tie.Need-loop-init invariant_loop decreases_loop
-loop-holds c = search rules
+loop-k-init : tie.Need-loop-k-init invariant_loop decreases_loop
+loop-k-init c = search rules
 
-add-t5 : tie.Need-overflow-add-t5 invariant_loop decreases_loop
-add-t5 c = search rules
+overflow_add-name : tie.Need-overflow_add-name invariant_loop decreases_loop
+overflow_add-name c = search rules
 
-replay-file-requires : tie.Need-replay-file-requires invariant_loop decreases_loop
-replay-file-requires c κs = search rules
+replay_file-requires : tie.Need-replay_file-requires invariant_loop decreases_loop
+replay_file-requires c κs = search rules
 
-same_length : tie.Need-same-length invariant_loop decreases_loop
-same_length c = search rules
+shape_of-text-then-not-replay_file : tie.Need-shape_of-text-then-not-replay_file invariant_loop decreases_loop
+shape_of-text-then-not-replay_file c = search rules
+
+returns-then-not-replay_file : tie.Need-returns-then-not-replay_file invariant_loop decreases_loop
+returns-then-not-replay_file c = search rules
+
+overflow_add-k : tie.Need-overflow_add-k invariant_loop decreases_loop
+overflow_add-k c = search rules
+
+loop-k-smaller : tie.Need-loop-k-smaller invariant_loop decreases_loop
+loop-k-smaller c = search rules
+
+loop-k-preserved : tie.Need-loop-k-preserved invariant_loop decreases_loop
+loop-k-preserved c = search rules
+
+shape_of-text : tie.Need-shape_of-text invariant_loop decreases_loop
+shape_of-text c = search rules
 
 returns : tie.Need-returns invariant_loop decreases_loop
 returns c = search rules
 
-add-k : tie.Need-overflow-add-k invariant_loop decreases_loop
-add-k c = search rules
-
-loop-less : tie.Need-loop-smaller invariant_loop decreases_loop
-loop-less c = search rules
-
-loop-again : tie.Need-loop-preserved invariant_loop decreases_loop
-loop-again c = search rules
-
-same-length-2 : tie.Need-same-length-2 invariant_loop decreases_loop
-same-length-2 c = search rules
-
-returns-2 : tie.Need-returns-2 invariant_loop decreases_loop
-returns-2 c = search rules
-
-pub replay-files-spec : {M : Type 1} → statement M
-replay-files-spec =
+pub replay_files_spec : {M : Type 1} → statement M
+replay_files_spec =
     tie.close
     (tie.spec
     invariant_loop
     decreases_loop
-    loop-holds
-    add-t5
-    replay-file-requires
-    same_length
-    returns
-    add-k
-    loop-less
-    loop-again
-    same-length-2
-    returns-2)
+    loop-k-init
+    overflow_add-name
+    replay_file-requires
+    shape_of-text-then-not-replay_file
+    returns-then-not-replay_file
+    overflow_add-k
+    loop-k-smaller
+    loop-k-preserved
+    shape_of-text
+    returns)

@@ -7,22 +7,22 @@ use Rattle.scripthash_free.proofs.LawsFree.{carve_told}
 use Rattle.scripthash_free.proofs.carve_gap_into_freelist.Statement.{statement}
 use Rattle.scripthash_free.proofs.carve_gap_into_freelist.Tie as tie
 
-carve-lent-requires : tie.Need-carve-lent-requires
-carve-lent-requires c κs = search rules
+carve_lent-number-requires : tie.Need-carve_lent-number-requires
+carve_lent-number-requires c κs = search rules
 
-done-or-requires : tie.Need-done-or-requires
-done-or-requires c κs = search rules
+done_or-requires : tie.Need-done_or-requires
+done_or-requires c κs = search rules
 
-same_length : tie.Need-same-length
-same_length c = search rules
+shape_of-body : tie.Need-shape_of-body
+shape_of-body c = search rules
 
 returns : tie.Need-returns
 returns c =
-    let carved = c.before.before.before.carve-lent.ensures in
+    let carved = c.before.before.before.carve_lent-number.ensures in
     let a = c.before.before.before.before.before.before.before.before.args in
     let l = lists a.body.now a.free.heads in
-    (c.done-or.ensures ∙ ap done_or carved.0 ∙ carve_told a.from a.to l, carved.1)
+    (c.done_or.ensures ∙ ap done_or carved.0 ∙ carve_told a.from a.to l, carved.1)
 
-pub carve-gap-into-freelist-spec : {M : Type 1} → statement M
-carve-gap-into-freelist-spec =
-    tie.close (tie.spec carve-lent-requires done-or-requires same_length returns)
+pub carve_gap_into_freelist_spec : {M : Type 1} → statement M
+carve_gap_into_freelist_spec =
+    tie.close (tie.spec carve_lent-number-requires done_or-requires shape_of-body returns)

@@ -14,7 +14,7 @@ use Rattle.scripthash_free.proofs.carve_lent.Statement.{statement}
 use Rattle.scripthash_free.proofs.carve_lent.Tie as tie
 
 -- a gap that passed its test
-module _ (t : tie.Else1) where
+module _ (t : tie.Else-not-is_gap) where
   abbrev start : tie.Start
   start = t.before.before.before
 
@@ -22,47 +22,47 @@ module _ (t : tie.Else1) where
   whole = lists start.args.body.now start.args.heads.now
 
   passed : is_gap start.args.from start.args.to (length start.args.body.now) ≡ true
-  passed = sym t.before.is-gap.ensures ∙ not-false _ t.if1.left
+  passed = sym t.before.is_gap.ensures ∙ not-false _ t.if-not-is_gap.left
 
-is-gap-requires : tie.Need-is-gap-requires
-is-gap-requires c κs = search rules
+is_gap-requires : tie.Need-is_gap-requires
+is_gap-requires c κs = search rules
 
-returns : tie.Need-returns
-returns c =
+returns-then-not-is_gap : tie.Need-returns-then-not-is_gap
+returns-then-not-is_gap c =
     let a = c.before.before.before.args in
     let l = lists a.body.now a.heads.now in
-    let answer = carve_no a.from a.to l (sym c.before.is-gap.ensures ∙ not-true _ c.if1.taken) in
+    let answer = carve_no a.from a.to l (sym c.before.is_gap.ensures ∙ not-true _ c.if-not-is_gap.taken) in
     (sym (ap refusal_of answer), sym (after_refused _ l answer))
 
-push-largest-requires : tie.Need-push-largest-requires
-push-largest-requires c κs =
+push_largest-rest-requires : tie.Need-push_largest-rest-requires
+push_largest-rest-requires c κs =
     let t = c.before.before.before in
-    let g : Gap (start t).args.from (start t).args.to _ = gap_lies _ _ _ (passed t) c.before.before.if2.taken in
+    let g : Gap (start t).args.from (start t).args.to _ = gap_lies _ _ _ (passed t) c.before.before.if-from-to.taken in
     (omega arith, g.ends)
 
-push-smaller-requires : tie.Need-push-smaller-requires
-push-smaller-requires c κs =
+push_smaller-requires : tie.Need-push_smaller-requires
+push_smaller-requires c κs =
     let t = c.before.before.before.before.before.before.before.before in
     let g : Gap (start t).args.from (start t).args.to _ =
-    gap_lies _ _ _ (passed t) c.before.before.before.before.before.before.before.if2.taken in
-    let r = c.before.before.before.before.push-largest.ensures.0 in
+    gap_lies _ _ _ (passed t) c.before.before.before.before.before.before.before.if-from-to.taken in
+    let r = c.before.before.before.before.push_largest-rest.ensures.0 in
     (r.0, omega (arith, g.ends), r.1)
 
-same_length : tie.Need-same-length
-same_length c = search rules
+shape_of-body : tie.Need-shape_of-body
+shape_of-body c = search rules
 
-returns-2 : tie.Need-returns-2
-returns-2 c =
+returns-then-from-to : tie.Need-returns-then-from-to
+returns-then-from-to c =
     let p = c.before.before.before.before.before.before.before in
     let t = p.before.before.before.before in
     let answer = carve_yes (start t).args.from (start t).args.to (whole t) (passed t) in (
       sym (ap refusal_of answer),
-      c.before.before.push-smaller.ensures ∙ p.push-largest.ensures.1
+      c.before.before.push_smaller.ensures ∙ p.push_largest-rest.ensures.1
           ∙ sym (after_accepted _ (whole t) answer),
     )
 
-returns-3 : tie.Need-returns-3
-returns-3 c =
+returns-else-from-to : tie.Need-returns-else-from-to
+returns-else-from-to c =
     let t = c.before in
     let answer = carve_yes (start t).args.from (start t).args.to (whole t) (passed t) in (
       sym (ap refusal_of answer),
@@ -70,14 +70,14 @@ returns-3 c =
           ∙ sym (after_accepted _ (whole t) answer),
     )
 
-pub carve-lent-spec : {M : Type 1} → statement M
-carve-lent-spec =
+pub carve_lent_spec : {M : Type 1} → statement M
+carve_lent_spec =
     tie.close
     (tie.spec
-    is-gap-requires
-    returns
-    push-largest-requires
-    push-smaller-requires
-    same_length
-    returns-2
-    returns-3)
+    is_gap-requires
+    returns-then-not-is_gap
+    push_largest-rest-requires
+    push_smaller-requires
+    shape_of-body
+    returns-then-from-to
+    returns-else-from-to)

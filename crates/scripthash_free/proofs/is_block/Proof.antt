@@ -8,22 +8,22 @@ use borrow.Author.Rules.{rules}
 use Rattle.scripthash_free.proofs.is_block.Statement.{statement}
 use Rattle.scripthash_free.proofs.is_block.Tie as tie
 
-is-page-requires : tie.Need-is-page-requires
-is-page-requires c κs = search rules
+is_page-requires : tie.Need-is_page-requires
+is_page-requires c κs = search rules
+
+returns-then-class-eq-SH_PAGE_SLAB_CLASS : tie.Need-returns-then-class-eq-SH_PAGE_SLAB_CLASS
+returns-then-class-eq-SH_PAGE_SLAB_CLASS c =
+    let a = c.before.before.before.args in
+    c.is_page.ensures ∙ ap (λ (class : ℕ). is_block class a.off a.end) (sym c.before.if-class-eq-SH_PAGE_SLAB_CLASS.true)
+
+returns-then-class-ge-SH_PAGE_SLAB_CLASS : tie.Need-returns-then-class-ge-SH_PAGE_SLAB_CLASS
+returns-then-class-ge-SH_PAGE_SLAB_CLASS c = sym (no_block _ _ _ (λ s. let h = s.class_to_8 in c.if-class-eq-SH_PAGE_SLAB_CLASS.false (omega arith)))
+
+is_slab-requires : tie.Need-is_slab-requires
+is_slab-requires c κs = search rules
 
 returns : tie.Need-returns
-returns c =
-    let a = c.before.before.before.args in
-    c.is-page.ensures ∙ ap (λ (class : ℕ). is_block class a.off a.end) (sym c.before.if2.true)
+returns c = search rules
 
-returns-2 : tie.Need-returns-2
-returns-2 c = sym (no_block _ _ _ (λ s. let h = s.class_to_8 in c.if2.false (omega arith)))
-
-is-slab-requires : tie.Need-is-slab-requires
-is-slab-requires c κs = search rules
-
-returns-3 : tie.Need-returns-3
-returns-3 c = search rules
-
-pub is-block-spec : {M : Type 1} → statement M
-is-block-spec = tie.close (tie.spec is-page-requires returns returns-2 is-slab-requires returns-3)
+pub is_block_spec : {M : Type 1} → statement M
+is_block_spec = tie.close (tie.spec is_page-requires returns-then-class-eq-SH_PAGE_SLAB_CLASS returns-then-class-ge-SH_PAGE_SLAB_CLASS is_slab-requires returns)

@@ -4,21 +4,21 @@ use Rattle.scripthash_free.specs.FreeList.{is_gap}
 use Rattle.scripthash_free.proofs.is_gap.Statement.{statement}
 use Rattle.scripthash_free.proofs.is_gap.Tie as tie
 
+returns-then-to-from : tie.Need-returns-then-to-from
+unfolding is_gap
+returns-then-to-from c = simp (le-leb _ _ c.if-to-from.true)
+
+returns-then-from-ne0 : tie.Need-returns-then-from-ne0
+unfolding is_gap
+returns-then-from-ne0 c = simp (lt-leb _ _ c.before.if-to-from.false, ne_eqb _ _ c.if-from-ne0.true)
+
+returns-then-from-lt-SH_PREFIX_PAGE : tie.Need-returns-then-from-lt-SH_PREFIX_PAGE
+unfolding is_gap
+returns-then-from-lt-SH_PREFIX_PAGE c = simp (lt-leb _ _ c.before.before.if-to-from.false, eq-eqb _ _ c.before.if-from-ne0.false, lt-leb _ _ c.if-from-lt-SH_PREFIX_PAGE.true)
+
 returns : tie.Need-returns
 unfolding is_gap
-returns c = simp (le-leb _ _ c.if1.true)
+returns c = simp (lt-leb _ _ c.before.before.if-to-from.false, eq-eqb _ _ c.before.if-from-ne0.false, le-leb _ _ c.if-from-lt-SH_PREFIX_PAGE.false)
 
-returns-2 : tie.Need-returns-2
-unfolding is_gap
-returns-2 c = simp (lt-leb _ _ c.before.if1.false, ne_eqb _ _ c.if2.true)
-
-returns-3 : tie.Need-returns-3
-unfolding is_gap
-returns-3 c = simp (lt-leb _ _ c.before.before.if1.false, eq-eqb _ _ c.before.if2.false, lt-leb _ _ c.if3.true)
-
-returns-4 : tie.Need-returns-4
-unfolding is_gap
-returns-4 c = simp (lt-leb _ _ c.before.before.if1.false, eq-eqb _ _ c.before.if2.false, le-leb _ _ c.if3.false)
-
-pub is-gap-spec : {M : Type 1} → statement M
-is-gap-spec = tie.close (tie.spec returns returns-2 returns-3 returns-4)
+pub is_gap_spec : {M : Type 1} → statement M
+is_gap_spec = tie.close (tie.spec returns-then-to-from returns-then-from-ne0 returns-then-from-lt-SH_PREFIX_PAGE returns)

@@ -5,26 +5,26 @@ use Rattle.scripthash_free.proofs.LawsBlock.{stands_block, no_block}
 use Rattle.scripthash_free.proofs.is_page.Statement.{statement}
 use Rattle.scripthash_free.proofs.is_page.Tie as tie
 
+returns-then-off-ne0 : tie.Need-returns-then-off-ne0
+returns-then-off-ne0 c = sym (no_block 8 _ _ (λ s. c.if-off-ne0.true s.aligned))
+
+returns-then-off-lt-SH_PREFIX_PAGE : tie.Need-returns-then-off-lt-SH_PREFIX_PAGE
+returns-then-off-lt-SH_PREFIX_PAGE c = sym (no_block 8 _ _ (λ s. let h = s.begins in omega arith))
+
+returns-then-end-off : tie.Need-returns-then-end-off
+returns-then-end-off c = sym (no_block 8 _ _ (λ s. let h = s.ends in omega arith))
+
+returns-then-end-off-lt-SH_PAGE_BYTES : tie.Need-returns-then-end-off-lt-SH_PAGE_BYTES
+returns-then-end-off-lt-SH_PAGE_BYTES c = sym (no_block 8 _ _ (λ s. let h = s.ends in omega arith))
+
 returns : tie.Need-returns
-returns c = sym (no_block 8 _ _ (λ s. c.if1.true s.aligned))
-
-returns-2 : tie.Need-returns-2
-returns-2 c = sym (no_block 8 _ _ (λ s. let h = s.begins in omega arith))
-
-returns-3 : tie.Need-returns-3
-returns-3 c = sym (no_block 8 _ _ (λ s. let h = s.ends in omega arith))
-
-returns-4 : tie.Need-returns-4
-returns-4 c = sym (no_block 8 _ _ (λ s. let h = s.ends in omega arith))
-
-returns-5 : tie.Need-returns-5
-returns-5 c =
+returns c =
     sym (stands_block 8 _ _ (record {
       class_to_8 = omega arith;
-      aligned = c.before.before.before.if1.false;
+      aligned = c.before.before.before.if-off-ne0.false;
       begins = omega arith;
       ends = omega arith;
     }))
 
-pub is-page-spec : {M : Type 1} → statement M
-is-page-spec = tie.close (tie.spec returns returns-2 returns-3 returns-4 returns-5)
+pub is_page_spec : {M : Type 1} → statement M
+is_page_spec = tie.close (tie.spec returns-then-off-ne0 returns-then-off-lt-SH_PREFIX_PAGE returns-then-end-off returns-then-end-off-lt-SH_PAGE_BYTES returns)

@@ -6,30 +6,30 @@ use Rattle.scripthash_free.proofs.LawsBlock.{no_block, parts_fit, parts_short, s
 use Rattle.scripthash_free.proofs.is_slab.Statement.{statement}
 use Rattle.scripthash_free.proofs.is_slab.Tie as tie
 
-returns : tie.Need-returns
-returns c = sym (no_block _ _ _ (λ b. let h = b.begins in omega arith))
+returns-then-off-lt-SH_PREFIX_PAGE : tie.Need-returns-then-off-lt-SH_PREFIX_PAGE
+returns-then-off-lt-SH_PREFIX_PAGE c = sym (no_block _ _ _ (λ b. let h = b.begins in omega arith))
 
-returns-2 : tie.Need-returns-2
-returns-2 c = sym (no_block _ _ _ (λ b. let h = b.ends in omega arith))
+returns-then-end-off : tie.Need-returns-then-end-off
+returns-then-end-off c = sym (no_block _ _ _ (λ b. let h = b.ends in omega arith))
 
-returns-3 : tie.Need-returns-3
-returns-3 c =
+returns-then-off-ne0 : tie.Need-returns-then-off-ne0
+returns-then-off-ne0 c =
     let s = c.before.before.before in
-    sym (no_block _ _ _ (λ b. c.if3.true (slab_aligned s.args.class s.args.off s.requires b.aligned)))
+    sym (no_block _ _ _ (λ b. c.if-off-ne0.true (slab_aligned s.args.class s.args.off s.requires b.aligned)))
 
-shr-if4 : tie.Need-overflow-shr-if4
-shr-if4 c = search rules
+overflow_shr-end : tie.Need-overflow_shr-end
+overflow_shr-end c = search rules
 
-returns-4 : tie.Need-returns-4
-returns-4 c =
+returns-then-end-off-lt-SH_SLAB_BASE_BYTES : tie.Need-returns-then-end-off-lt-SH_SLAB_BASE_BYTES
+returns-then-end-off-lt-SH_SLAB_BASE_BYTES c =
     let s = c.before.before.before.before in
-    sym (no_block _ _ _ (λ b. let h = b.ends in omega (arith, parts_short s.args.class _ c.if4.true)))
+    sym (no_block _ _ _ (λ b. let h = b.ends in omega (arith, parts_short s.args.class _ c.if-end-off-lt-SH_SLAB_BASE_BYTES.true)))
 
-returns-5 : tie.Need-returns-5
-returns-5 c =
+returns : tie.Need-returns
+returns c =
     let s = c.before.before.before.before in
-    sym (slab_stands s.args.class s.args.off s.args.end s.requires c.before.if3.false (omega arith)
-    (omega (arith, parts_fit s.args.class _ c.if4.false)))
+    sym (slab_stands s.args.class s.args.off s.args.end s.requires c.before.if-off-ne0.false (omega arith)
+    (omega (arith, parts_fit s.args.class _ c.if-end-off-lt-SH_SLAB_BASE_BYTES.false)))
 
-pub is-slab-spec : {M : Type 1} → statement M
-is-slab-spec = tie.close (tie.spec returns returns-2 returns-3 shr-if4 returns-4 returns-5)
+pub is_slab_spec : {M : Type 1} → statement M
+is_slab_spec = tie.close (tie.spec returns-then-off-lt-SH_PREFIX_PAGE returns-then-end-off returns-then-off-ne0 overflow_shr-end returns-then-end-off-lt-SH_SLAB_BASE_BYTES returns)

@@ -7,20 +7,20 @@ use Rattle.scripthash_free.proofs.LawsBlock.{largest_none, largest_found, larges
 use Rattle.scripthash_free.proofs.largest_reloc_class_le.Statement.{statement}
 use Rattle.scripthash_free.proofs.largest_reloc_class_le.Tie as tie
 
+returns-then-bytes-lt-SH_SLAB_BASE_BYTES : tie.Need-returns-then-bytes-lt-SH_SLAB_BASE_BYTES
+returns-then-bytes-lt-SH_SLAB_BASE_BYTES c = sym (largest_none 7 c.before.args.bytes (omega arith))
+
+returns-then-bytes-ge-LARGEST_BYTES : tie.Need-returns-then-bytes-ge-LARGEST_BYTES
+returns-then-bytes-ge-LARGEST_BYTES c = sym (largest_found 7 c.before.before.args.bytes (omega arith))
+
+overflow_sub-result : tie.Need-overflow_sub-result
+overflow_sub-result c = let n = c.before.before.args.bytes in omega (arith, bits_below_64 n (omega arith) (omega arith))
+
+overflow_cast-result : tie.Need-overflow_cast-result
+overflow_cast-result c = search rules
+
 returns : tie.Need-returns
-returns c = sym (largest_none 7 c.before.args.bytes (omega arith))
+returns c = sym (largest_bits c.before.before.args.bytes (omega arith) (omega arith))
 
-returns-2 : tie.Need-returns-2
-returns-2 c = sym (largest_found 7 c.before.before.args.bytes (omega arith))
-
-sub-t5 : tie.Need-overflow-sub-t5
-sub-t5 c = let n = c.before.before.args.bytes in omega (arith, bits_below_64 n (omega arith) (omega arith))
-
-cast-t6 : tie.Need-overflow-cast-t6
-cast-t6 c = search rules
-
-returns-3 : tie.Need-returns-3
-returns-3 c = sym (largest_bits c.before.before.args.bytes (omega arith) (omega arith))
-
-pub largest-reloc-class-le-spec : {M : Type 1} → statement M
-largest-reloc-class-le-spec = tie.close (tie.spec returns returns-2 sub-t5 cast-t6 returns-3)
+pub largest_reloc_class_le_spec : {M : Type 1} → statement M
+largest_reloc_class_le_spec = tie.close (tie.spec returns-then-bytes-lt-SH_SLAB_BASE_BYTES returns-then-bytes-ge-LARGEST_BYTES overflow_sub-result overflow_cast-result returns)

@@ -12,7 +12,7 @@ use Rattle.scripthash_free.proofs.pop_lent.Statement.{statement}
 use Rattle.scripthash_free.proofs.pop_lent.Tie as tie
 
 -- the head's block is tested against the lower of the mark and the body's end
-module _ (t : tie.After-is-block) where
+module _ (t : tie.After-is_block) where
   abbrev args : tie.Start
   args = t.before.before.before.before.before.before
 
@@ -22,71 +22,71 @@ module _ (t : tie.After-is-block) where
   block_tested : is_block args.args.class head (min args.args.mark (length args.args.body.now)) ≡ t.is_Block.result
   block_tested = ap (λ (end : ℕ). is_block args.args.class head end) (sym t.before.lower.ensures) ∙ sym t.is_Block.ensures
 
-returns : tie.Need-returns
-returns c =
+returns-then-class-gt-SH_PAGE_SLAB_CLASS : tie.Need-returns-then-class-gt-SH_PAGE_SLAB_CLASS
+returns-then-class-gt-SH_PAGE_SLAB_CLASS c =
     let a = c.before.before.args in
-    let answer = pop_beyond a.class a.mark (lists a.body.now a.heads.now) c.if1.true in
+    let answer = pop_beyond a.class a.mark (lists a.body.now a.heads.now) c.if-class-gt-SH_PAGE_SLAB_CLASS.true in
     (sym (answered_yes (λ (p : Pop). p.block) _ answer), sym (heads_accepted _ a.heads.now answer))
 
-mul-off : tie.Need-overflow-mul-off
-mul-off c = search rules
+offset_bounds-heads-idx : tie.Need-offset_bounds-heads-idx
+offset_bounds-heads-idx c = search rules
 
-element-copy-out-off : tie.Need-element-copy-out-off
-element-copy-out-off c = search rules
+bounds-heads-idx : tie.Need-bounds-heads-idx
+bounds-heads-idx c = search rules
 
-returns-2 : tie.Need-returns-2
-returns-2 c =
+returns-then-off-eq0 : tie.Need-returns-then-off-eq0
+returns-then-off-eq0 c =
     let a = c.before.before.before.before.args in
-    let answer = pop_none a.class a.mark (lists a.body.now a.heads.now) (omega arith) c.if2.true in
+    let answer = pop_none a.class a.mark (lists a.body.now a.heads.now) (omega arith) c.if-off-eq0.true in
     (sym (answered_yes (λ (p : Pop). p.block) _ answer), sym (heads_accepted _ a.heads.now answer))
 
 lower-requires : tie.Need-lower-requires
 lower-requires c κs = search rules
 
-is-block-requires : tie.Need-is-block-requires
-is-block-requires c κs = search rules
+is_block-requires : tie.Need-is_block-requires
+is_block-requires c κs = search rules
 
-get-u64-requires : tie.Need-get-u64-requires
-get-u64-requires c κs =
-    let s = block_stands _ _ _ (block_tested c.before ∙ c.if3.true) in
+get_u64-requires : tie.Need-get_u64-requires
+get_u64-requires c κs =
+    let s = block_stands _ _ _ (block_tested c.before ∙ c.if-is_block.true) in
     omega (arith, s.ends, bytes_from_16 c.before.before.before.before.before.before.before.args.class)
 
-mul-heads : tie.Need-overflow-mul-heads
-mul-heads c = search rules
+offset_bounds-heads-idx-then-is_block : tie.Need-offset_bounds-heads-idx-then-is_block
+offset_bounds-heads-idx-then-is_block c = search rules
 
-element-write-heads : tie.Need-element-write-heads
-element-write-heads c = search rules
+bounds-heads-idx-then-is_block : tie.Need-bounds-heads-idx-then-is_block
+bounds-heads-idx-then-is_block c = search rules
 
-returns-3 : tie.Need-returns-3
-returns-3 c =
+returns-then-is_block : tie.Need-returns-then-is_block
+returns-then-is_block c =
     let t = c.before.before in
     let a = t.before.before.before.before.before.before.args in
-    let answer = pop_yes a.class a.mark (lists a.body.now a.heads.now) (omega arith) t.before.before.if2.false
-    (block_tested t ∙ c.before.if3.true) in (
+    let answer = pop_yes a.class a.mark (lists a.body.now a.heads.now) (omega arith) t.before.before.if-off-eq0.false
+    (block_tested t ∙ c.before.if-is_block.true) in (
       sym (answered_yes (λ (p : Pop). p.block) _ answer),
-      ap (λ (next : ℕ). set a.heads.now a.class next) c.get-u64.ensures ∙ sym (heads_accepted _ a.heads.now answer),
+      ap (λ (next : ℕ). set a.heads.now a.class next) c.get_u64.ensures ∙ sym (heads_accepted _ a.heads.now answer),
     )
 
-returns-4 : tie.Need-returns-4
-returns-4 c =
+returns : tie.Need-returns
+returns c =
     let t = c.before in
     let a = t.before.before.before.before.before.before.args in
-    let answer = pop_no a.class a.mark (lists a.body.now a.heads.now) (omega arith) t.before.before.if2.false
-    (block_tested t ∙ c.if3.false) in
+    let answer = pop_no a.class a.mark (lists a.body.now a.heads.now) (omega arith) t.before.before.if-off-eq0.false
+    (block_tested t ∙ c.if-is_block.false) in
     (sym (answered_no (λ (p : Pop). p.block) _ answer), sym (heads_refused _ a.heads.now answer))
 
-pub pop-lent-spec : {M : Type 1} → statement M
-pop-lent-spec =
+pub pop_lent_spec : {M : Type 1} → statement M
+pop_lent_spec =
     tie.close
     (tie.spec
-    returns
-    mul-off
-    element-copy-out-off
-    returns-2
+    returns-then-class-gt-SH_PAGE_SLAB_CLASS
+    offset_bounds-heads-idx
+    bounds-heads-idx
+    returns-then-off-eq0
     lower-requires
-    is-block-requires
-    get-u64-requires
-    mul-heads
-    element-write-heads
-    returns-3
-    returns-4)
+    is_block-requires
+    get_u64-requires
+    offset_bounds-heads-idx-then-is_block
+    bounds-heads-idx-then-is_block
+    returns-then-is_block
+    returns)

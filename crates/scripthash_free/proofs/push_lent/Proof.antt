@@ -10,34 +10,34 @@ use borrow.Author.Rules.{rules}
 use Rattle.scripthash_free.proofs.push_lent.Statement.{statement}
 use Rattle.scripthash_free.proofs.push_lent.Tie as tie
 
-is-block-requires : tie.Need-is-block-requires
-is-block-requires c κs = search rules
+is_block-requires : tie.Need-is_block-requires
+is_block-requires c κs = search rules
 
-put-free-head-requires : tie.Need-put-free-head-requires
-put-free-head-requires c κs =
+put_free_head-requires : tie.Need-put_free_head-requires
+put_free_head-requires c κs =
     let t = c.before.before in
     let a = t.before.before.before.args in
-    let s : Standing a.class a.off _ = block_stands _ _ _ (sym t.before.is_Block.ensures ∙ t.if1.true) in
+    let s : Standing a.class a.off _ = block_stands _ _ _ (sym t.before.is_Block.ensures ∙ t.if-is_block.true) in
     (s.class_to_8, omega (arith, bytes_from_16 a.class))
 
-same_length : tie.Need-same-length
-same_length c = search rules
+shape_of-body-then-is_block : tie.Need-shape_of-body-then-is_block
+shape_of-body-then-is_block c = search rules
 
-returns : tie.Need-returns
-returns c =
+returns-then-is_block : tie.Need-returns-then-is_block
+returns-then-is_block c =
     let t = c.before.before.before.before.before in
     let a = t.before.before.before.args in
     let l = lists a.body.now a.heads.now in
-    let answer = push_yes a.class a.off l (sym t.before.is_Block.ensures ∙ t.if1.true) in
-    (sym (answered_yes was_done _ answer), c.before.before.put-free-head.ensures ∙ sym (after_accepted _ l answer))
+    let answer = push_yes a.class a.off l (sym t.before.is_Block.ensures ∙ t.if-is_block.true) in
+    (sym (answered_yes was_done _ answer), c.before.before.put_free_head.ensures ∙ sym (after_accepted _ l answer))
 
-returns-2 : tie.Need-returns-2
-returns-2 c =
+returns : tie.Need-returns
+returns c =
     let a = c.before.before.before.args in
     let l = lists a.body.now a.heads.now in
-    let answer = push_no a.class a.off l (sym c.before.is_Block.ensures ∙ c.if1.false) in
+    let answer = push_no a.class a.off l (sym c.before.is_Block.ensures ∙ c.if-is_block.false) in
     (sym (answered_no was_done _ answer), sym (after_refused _ l answer))
 
-pub push-lent-spec : {M : Type 1} → statement M
-push-lent-spec =
-    tie.close (tie.spec is-block-requires put-free-head-requires same_length returns returns-2)
+pub push_lent_spec : {M : Type 1} → statement M
+push_lent_spec =
+    tie.close (tie.spec is_block-requires put_free_head-requires shape_of-body-then-is_block returns-then-is_block returns)

@@ -8,38 +8,38 @@ use borrow.Author.Rules.{rules}
 use Rattle.scripthash_free.proofs.put_free_head.Statement.{statement}
 use Rattle.scripthash_free.proofs.put_free_head.Tie as tie
 
-mul-head : tie.Need-overflow-mul-head
-mul-head c = search rules
+offset_bounds-heads-idx : tie.Need-offset_bounds-heads-idx
+offset_bounds-heads-idx c = search rules
 
-element-copy-out-head : tie.Need-element-copy-out-head
-element-copy-out-head c = search rules
+bounds-heads-idx : tie.Need-bounds-heads-idx
+bounds-heads-idx c = search rules
 
-put-u64-requires : tie.Need-put-u64-requires
-put-u64-requires c κs = search rules
+put_u64-requires : tie.Need-put_u64-requires
+put_u64-requires c κs = search rules
 
-mul-heads : tie.Need-overflow-mul-heads
-mul-heads c = search rules
+offset_bounds-heads-idx-2 : tie.Need-offset_bounds-heads-idx-2
+offset_bounds-heads-idx-2 c = search rules
 
-element-write-heads : tie.Need-element-write-heads
-element-write-heads c = search rules
+bounds-heads-idx-2 : tie.Need-bounds-heads-idx-2
+bounds-heads-idx-2 c = search rules
 
-same_length : tie.Need-same-length
-same_length c = search rules
+shape_of-body : tie.Need-shape_of-body
+shape_of-body c = search rules
 
 returns : tie.Need-returns
 unfolding pushed
 returns c =
     let a = c.before.before.before.before.before.before.args in
-    ap (λ (b : List ℕ). lists b (set a.heads.now a.class a.off)) c.before.before.put-u64.ensures
+    ap (λ (b : List ℕ). lists b (set a.heads.now a.class a.off)) c.before.before.put_u64.ensures
 
-pub put-free-head-spec : {M : Type 1} → statement M
-put-free-head-spec =
+pub put_free_head_spec : {M : Type 1} → statement M
+put_free_head_spec =
     tie.close
     (tie.spec
-    mul-head
-    element-copy-out-head
-    put-u64-requires
-    mul-heads
-    element-write-heads
-    same_length
+    offset_bounds-heads-idx
+    bounds-heads-idx
+    put_u64-requires
+    offset_bounds-heads-idx-2
+    bounds-heads-idx-2
+    shape_of-body
     returns)

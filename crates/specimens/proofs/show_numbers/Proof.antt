@@ -5,51 +5,51 @@ use lib.ListN.{length}
 use Rattle.specimens.proofs.show_numbers.Statement.{statement}
 use Rattle.specimens.proofs.show_numbers.Tie as tie
 
-abbrev invariant_loop : tie.invariant_loop
+abbrev invariant_loop : tie.invariant-loop-i
 invariant_loop numbers form₀ i₀ form i = Unit
 
-abbrev decreases_loop : tie.decreases_loop
+abbrev decreases_loop : tie.decreases-loop-i
 decreases_loop numbers form₀ i₀ form i = length numbers - i
 
-slice-aggregate-form : tie.Need-slice-aggregate-form invariant_loop decreases_loop
-slice-aggregate-form c = search rules
+slice_bounds-form-end : tie.Need-slice_bounds-form-end invariant_loop decreases_loop
+slice_bounds-form-end c = search rules
 
-loop-holds : tie.Need-loop-init invariant_loop decreases_loop
-loop-holds c = search rules
+loop-i-init : tie.Need-loop-i-init invariant_loop decreases_loop
+loop-i-init c = search rules
 
-mul-show-number : tie.Need-overflow-mul-show-number invariant_loop decreases_loop
-mul-show-number c = search rules
+offset_bounds-numbers-i : tie.Need-offset_bounds-numbers-i invariant_loop decreases_loop
+offset_bounds-numbers-i c = search rules
 
-shared-slice-read-show-number : tie.Need-shared-slice-read-show-number invariant_loop decreases_loop
-shared-slice-read-show-number c = search rules
+bounds-numbers-i : tie.Need-bounds-numbers-i invariant_loop decreases_loop
+bounds-numbers-i c = search rules
 
-show-number-requires : tie.Need-show-number-requires invariant_loop decreases_loop
-show-number-requires c κs = search rules
+show_number-requires : tie.Need-show_number-requires invariant_loop decreases_loop
+show_number-requires c κs = search rules
 
-add-i : tie.Need-overflow-add-i invariant_loop decreases_loop
-add-i c = search rules
+overflow_add-i : tie.Need-overflow_add-i invariant_loop decreases_loop
+overflow_add-i c = search rules
 
-loop-less : tie.Need-loop-smaller invariant_loop decreases_loop
-loop-less c = search rules
+loop-i-smaller : tie.Need-loop-i-smaller invariant_loop decreases_loop
+loop-i-smaller c = search rules
 
-loop-again : tie.Need-loop-preserved invariant_loop decreases_loop
-loop-again c = search rules
+loop-i-preserved : tie.Need-loop-i-preserved invariant_loop decreases_loop
+loop-i-preserved c = search rules
 
 returns : tie.Need-returns invariant_loop decreases_loop
 returns c = search rules
 
-pub show-numbers-spec : {M : Type 1} → statement M
-show-numbers-spec =
+pub show_numbers_spec : {M : Type 1} → statement M
+show_numbers_spec =
     tie.close
     (tie.spec
     invariant_loop
     decreases_loop
-    slice-aggregate-form
-    loop-holds
-    mul-show-number
-    shared-slice-read-show-number
-    show-number-requires
-    add-i
-    loop-less
-    loop-again
+    slice_bounds-form-end
+    loop-i-init
+    offset_bounds-numbers-i
+    bounds-numbers-i
+    show_number-requires
+    overflow_add-i
+    loop-i-smaller
+    loop-i-preserved
     returns)

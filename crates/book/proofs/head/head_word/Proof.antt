@@ -8,23 +8,23 @@ use Rattle.book.specs.Book.{head_word}
 use Rattle.book.proofs.head.head_word.Statement.{statement}
 use Rattle.book.proofs.head.head_word.Tie as tie
 
-pack8-requires : tie.Need-pack8-requires
-pack8-requires c κs = search rules
+pack8-packed-requires : tie.Need-pack8-packed-requires
+pack8-packed-requires c κs = search rules
 
-enum-known-packed : tie.Need-enum-known-packed
-enum-known-packed c = search rules
+enum_known-packed : tie.Need-enum_known-packed
+enum_known-packed c = search rules
 
-enum_told : tie.Need-enum-told
-enum_told c = search rules
+enum_told-1 : tie.Need-enum_told-1
+enum_told-1 c = search rules
 
-returns : tie.Need-returns
+returns-in-Word : tie.Need-returns-in-Word
 unfolding head_word
-returns c = ap (λ (a : Answer ℕ). value_or (λ w. w) a 0) (sym (ap pack_answer c.before.packed.given.1)
-    ∙ c.before.before.before.pack8.ensures)
+returns-in-Word c = ap (λ (a : Answer ℕ). value_or (λ w. w) a 0) (sym (ap pack_answer c.before.packed-1.given.1)
+    ∙ c.before.before.before.pack8-packed.ensures)
 
-returns-2 : tie.Need-returns-2
+returns-in-Refused : tie.Need-returns-in-Refused
 unfolding head_word
-returns-2 c = ap (λ (a : Answer ℕ). value_or (λ w. w) a 0) (sym (ap pack_answer c.enum_told.given.1) ∙ c.before.before.pack8.ensures)
+returns-in-Refused c = ap (λ (a : Answer ℕ). value_or (λ w. w) a 0) (sym (ap pack_answer c.enum_told-1.given.1) ∙ c.before.before.pack8-packed.ensures)
 
-pub head-word-spec : {M : Type 1} → statement M
-head-word-spec = tie.close (tie.spec pack8-requires enum-known-packed enum_told returns returns-2)
+pub head_word_spec : {M : Type 1} → statement M
+head_word_spec = tie.close (tie.spec pack8-packed-requires enum_known-packed enum_told-1 returns-in-Word returns-in-Refused)

@@ -5,21 +5,21 @@ use borrow.Author.Rules.{rules}
 use Rattle.book.proofs.head.put_head.Statement.{statement}
 use Rattle.book.proofs.head.put_head.Tie as tie
 
-head-word-requires : tie.Need-head-word-requires
-head-word-requires c κs = search rules
+head_word-requires : tie.Need-head_word-requires
+head_word-requires c κs = search rules
 
-mul-heads : tie.Need-overflow-mul-heads
-mul-heads c = search rules
+offset_bounds-heads-key : tie.Need-offset_bounds-heads-key
+offset_bounds-heads-key c = search rules
 
-slice-write-heads : tie.Need-slice-write-heads
-slice-write-heads c = search rules
+bounds-heads-key : tie.Need-bounds-heads-key
+bounds-heads-key c = search rules
 
-same_length : tie.Need-same-length
-same_length c = search rules
+shape_of-heads : tie.Need-shape_of-heads
+shape_of-heads c = search rules
 
 returns : tie.Need-returns
-returns c = ap (set c.before.before.args.heads.now c.before.before.args.key) c.head-word.ensures
+returns c = ap (set c.before.before.args.heads.now c.before.before.args.key) c.head_word.ensures
 
-pub put-head-spec : {M : Type 1} → statement M
-put-head-spec =
-    tie.close (tie.spec head-word-requires mul-heads slice-write-heads same_length returns)
+pub put_head_spec : {M : Type 1} → statement M
+put_head_spec =
+    tie.close (tie.spec head_word-requires offset_bounds-heads-key bounds-heads-key shape_of-heads returns)

@@ -11,26 +11,26 @@ use Rattle.book.proofs.place.compact_len.Statement.{statement}
 use Rattle.book.proofs.place.compact_len.Tie as tie
 
 -- the list is accepted
-module _ (t : tie.After-judge-list) where
-  judged : bytes_answer t.judge-list.result ≡ accepted (stream_len t.before.before.args.fks.now)
+module _ (t : tie.After-judge_list-judged) where
+  judged : bytes_answer t.judge_list-judged.result ≡ accepted (stream_len t.before.before.args.fks.now)
   judged = let start = t.before.before in
-      t.judge-list.ensures ∙ rising_all true 0 start.args.fks.now (accepted (stream_len start.args.fks.now)) start.requires.1
+      t.judge_list-judged.ensures ∙ rising_all true 0 start.args.fks.now (accepted (stream_len start.args.fks.now)) start.requires.1
 
-judge-list-requires : tie.Need-judge-list-requires
-judge-list-requires c κs = search rules
+judge_list-judged-requires : tie.Need-judge_list-judged-requires
+judge_list-judged-requires c κs = search rules
 
-enum-known-judged : tie.Need-enum-known-judged
-enum-known-judged c = search rules
+enum_known-judged : tie.Need-enum_known-judged
+enum_known-judged c = search rules
 
-enum_told : tie.Need-enum-told
-enum_told c = search rules
+enum_told-1 : tie.Need-enum_told-1
+enum_told-1 c = search rules
+
+returns-in_default : tie.Need-returns-in_default
+returns-in_default c = absurd (refused≢accepted (sym (ap bytes_answer c.enum_told-1.given.1) ∙ judged c.before.before))
 
 returns : tie.Need-returns
-returns c = absurd (refused≢accepted (sym (ap bytes_answer c.enum_told.given.1) ∙ judged c.before.before))
+returns c = accepted_inj (sym (ap bytes_answer c.before.judged-1.given.1) ∙ judged c.before.before.before)
 
-returns-2 : tie.Need-returns-2
-returns-2 c = accepted_inj (sym (ap bytes_answer c.before.judged.given.1) ∙ judged c.before.before.before)
-
-pub compact-len-spec : {M : Type 1} → statement M
-compact-len-spec =
-    tie.close (tie.spec judge-list-requires enum-known-judged enum_told returns returns-2)
+pub compact_len_spec : {M : Type 1} → statement M
+compact_len_spec =
+    tie.close (tie.spec judge_list-judged-requires enum_known-judged enum_told-1 returns-in_default returns)

@@ -50,97 +50,97 @@ module _ (c : tie.Start) where
   same e = ap (λ (l : List ℕ). placed l (moves_to (length l) (stream_len l))) (sym (part_to_end lent 0)) ∙ ap (placed list) e
 
 -- the class that was chosen is the one that the list moves to
-module _ (t : tie.After-moves-to) where
+module _ (t : tie.After-moves_to-class) where
   abbrev start : tie.Start
   start = t.before.before.before.before.before
 
-  chose : moves_to (length (list start)) (stream_len (list start)) ≡ chosen t.moves_to.result
-  chose = sym (t.moves_to.ensures ∙ ap (moves_to (length (list start))) t.before.compact-len.ensures)
+  chose : moves_to (length (list start)) (stream_len (list start)) ≡ chosen t.moves_to-class.result
+  chose = sym (t.moves_to-class.ensures ∙ ap (moves_to (length (list start))) t.before.compact_len-bytes.ensures)
 
 -- a slab of a class
-module _ (k : tie.After-known-told) where
-  abbrev choosing : tie.After-moves-to
+module _ (k : tie.In-Class) where
+  abbrev choosing : tie.After-moves_to-class
   choosing = k.before.before.before
 
-  to_slab : moves_to (length (list (start choosing))) (stream_len (list (start choosing))) ≡ some k.before.class.given.0.0
-  to_slab = chose choosing ∙ ap chosen k.before.class.given.1
+  to_slab : moves_to (length (list (start choosing))) (stream_len (list (start choosing))) ≡ some k.before.class-1.given.0.0
+  to_slab = chose choosing ∙ ap chosen k.before.class-1.given.1
 
 -- a page
-module _ (e : tie.After-enum-told) where
-  abbrev choosing_page : tie.After-moves-to
+module _ (e : tie.In-Nothing) where
+  abbrev choosing_page : tie.After-moves_to-class
   choosing_page = e.before.before
 
   to_page : moves_to (length (list (start choosing_page))) (stream_len (list (start choosing_page))) ≡ none
-  to_page = chose choosing_page ∙ ap chosen e.enum_told.given.1
+  to_page = chose choosing_page ∙ ap chosen e.enum_told-1.given.1
 
-sub-list : tie.Need-overflow-sub-list
-sub-list c = search rules
+slice_bounds-list-count : tie.Need-slice_bounds-list-count
+slice_bounds-list-count c = search rules
 
-part-list-start : tie.Need-slice-bounds-list-start
-part-list-start c = search rules
+slice_bounds-list-start : tie.Need-slice_bounds-list-start
+slice_bounds-list-start c = search rules
 
-part-list-end : tie.Need-slice-bounds-list-end
-part-list-end c = search rules
+slice_bounds-list-end : tie.Need-slice_bounds-list-end
+slice_bounds-list-end c = search rules
 
-compact-len-requires : tie.Need-compact-len-requires
-compact-len-requires c κs = let p = pre c.before.before.before in (p.few, p.rises)
+compact_len-bytes-requires : tie.Need-compact_len-bytes-requires
+compact_len-bytes-requires c κs = let p = pre c.before.before.before in (p.few, p.rises)
 
-moves-to-requires : tie.Need-moves-to-requires
-moves-to-requires c κs =
+moves_to-class-requires : tie.Need-moves_to-class-requires
+moves_to-class-requires c κs =
     let start = c.before.before.before.before in
-    (omega (arith, (pre start).two), omega (arith, c.compact-len.ensures, bytes start))
+    (omega (arith, (pre start).two), omega (arith, c.compact_len-bytes.ensures, bytes start))
 
-enum-known-class : tie.Need-enum-known-class
-enum-known-class c = search rules
+enum_known-class : tie.Need-enum_known-class
+enum_known-class c = search rules
 
-place-in-slab-requires : tie.Need-place-in-slab-requires
-place-in-slab-requires c κs =
+place_in_slab-requires : tie.Need-place_in_slab-requires
+place_in_slab-requires c κs =
     let k = c.before.before.before.before in
     let p = pre (start (choosing k)) in
     let m = moves_to_lem (length (list (start (choosing k)))) (stream_len (list (start (choosing k)))) (to_slab k) in
     record { shape = p.shape; known = p.known; low = m.slab; few = m.few; rises = p.rises; fits = m.fits }
 
-enum_told : tie.Need-enum-told
-enum_told c = search rules
+enum_told-1 : tie.Need-enum_told-1
+enum_told-1 c = search rules
 
-place-in-page-requires : tie.Need-place-in-page-requires
-place-in-page-requires c κs =
+place_in_page-requires : tie.Need-place_in_page-requires
+place_in_page-requires c κs =
     let s = start (choosing_page c.before.before.before.before) in
     let p = pre s in
     record { shape = p.shape; known = p.known; few = p.few; rises = p.rises; fits = omega (arith, bytes s) }
 
-same_length : tie.Need-same-length
-same_length c = search rules
+shape_of-body-in-Class : tie.Need-shape_of-body-in-Class
+shape_of-body-in-Class c = search rules
 
-returns : tie.Need-returns
-returns c =
+returns-in-Class : tie.Need-returns-in-Class
+returns-in-Class c =
     let p = c.before.before in
     let k = p.before.before.before.before.before in
-    places_as (same (start (choosing k)) (to_slab k)) p.place-in-slab.ensures
+    places_as (same (start (choosing k)) (to_slab k)) p.place_in_slab.ensures
 
-same-length-2 : tie.Need-same-length-2
-same-length-2 c = search rules
+shape_of-body-in-Nothing : tie.Need-shape_of-body-in-Nothing
+shape_of-body-in-Nothing c = search rules
 
-returns-2 : tie.Need-returns-2
-returns-2 c =
+returns-in-Nothing : tie.Need-returns-in-Nothing
+returns-in-Nothing c =
     let p = c.before.before in
     let e = p.before.before.before.before.before in
-    places_as (same (start (choosing_page e)) (to_page e)) p.place-in-page.ensures
+    places_as (same (start (choosing_page e)) (to_page e)) p.place_in_page.ensures
 
-pub move-list-spec : {M : Type 1} → statement M
-move-list-spec =
+pub move_list_spec : {M : Type 1} → statement M
+move_list_spec =
     tie.close
     (tie.spec
-    sub-list
-    part-list-start
-    part-list-end
-    compact-len-requires
-    moves-to-requires
-    enum-known-class
-    place-in-slab-requires
-    enum_told
-    place-in-page-requires
-    same_length
-    returns
-    same-length-2
-    returns-2)
+    slice_bounds-list-count
+    slice_bounds-list-start
+    slice_bounds-list-end
+    compact_len-bytes-requires
+    moves_to-class-requires
+    enum_known-class
+    place_in_slab-requires
+    enum_told-1
+    place_in_page-requires
+    shape_of-body-in-Class
+    returns-in-Class
+    shape_of-body-in-Nothing
+    returns-in-Nothing)

@@ -16,7 +16,7 @@ use Rattle.book.proofs.place.place_in_page.Statement.{statement}
 use Rattle.book.proofs.place.place_in_page.Tie as tie
 
 -- the arguments, and the space before the take and after it
-module _ (t : tie.After-page-for) where
+module _ (t : tie.After-page_for-answer) where
   abbrev start : tie.Start
   start = t.before.before.before.before.before.before.before
 
@@ -33,51 +33,51 @@ module _ (t : tie.After-page-for) where
   before = space start.args.body.now start.args.mark.now start.args.free.now
 
   abbrev after : Space
-  after = space t.page_for.last.0 t.page_for.last.1.0 t.page_for.last.1.1.0
+  after = space t.page_for-answer.last.0 t.page_for-answer.last.1.0 t.page_for-answer.last.1.1.0
 
   abbrev left : List ℕ
-  left = t.page_for.last.1.1.1.0
+  left = t.page_for-answer.last.1.1.1.0
 
 -- a block was taken
-module _ (k : tie.After-known-told) where
-  abbrev taking : tie.After-page-for
+module _ (k : tie.In-At) where
+  abbrev taking : tie.After-page_for-answer
   taking = k.before.before.before.before.before
 
   abbrev taken : TakenFor
-  taken = record { off = k.before.answer.given.0.0; space = after taking; counts = left taking }
+  taken = record { off = k.before.answer-1.given.0.0; space = after taking; counts = left taking }
 
   took : page_for (desk taking) (before taking) (counts taking) ≡ accepted taken
   took =
-      took_at (before taking) (counts taking) (after taking) (left taking) _ taking.page_for.ensures
-      (ap take_answer k.before.answer.given.1)
+      took_at (before taking) (counts taking) (after taking) (left taking) _ taking.page_for-answer.ensures
+      (ap take_answer k.before.answer-1.given.1)
 
-page-for-requires : tie.Need-page-for-requires
-page-for-requires c κs = search rules
+page_for-answer-requires : tie.Need-page_for-answer-requires
+page_for-answer-requires c κs = search rules
 
-enum-known-answer : tie.Need-enum-known-answer
-enum-known-answer c = search rules
+enum_known-answer : tie.Need-enum_known-answer
+enum_known-answer c = search rules
 
-enum_told : tie.Need-enum-told
-enum_told c = search rules
+enum_told-1 : tie.Need-enum_told-1
+enum_told-1 c = search rules
 
 refusal-requires : tie.Need-refusal-requires
 refusal-requires c κs = search rules
 
-same_length : tie.Need-same-length
-same_length c = search rules
+shape_of-body-in_default : tie.Need-shape_of-body-in_default
+shape_of-body-in_default c = search rules
 
-returns : tie.Need-returns
-returns c =
+returns-in_default : tie.Need-returns-in_default
+returns-in_default c =
     let t = c.before.before.before.before.before in
-    let is = refused_as _ _ (ap take_answer c.before.enum_told.given.1) c.refusal.ensures in
+    let is = refused_as _ _ (ap take_answer c.before.enum_told-1.given.1) c.refusal.ensures in
     page_refused (desk t) (before t) (counts t) (list t) (after t) (left t)
-    (took_none (before t) (counts t) (after t) (left t) (page_for (desk t) (before t) (counts t)) t.page_for.ensures is)
+    (took_none (before t) (counts t) (after t) (left t) (page_for (desk t) (before t) (counts t)) t.page_for-answer.ensures is)
 
-cast-count : tie.Need-overflow-cast-count
-cast-count c = search rules
+overflow_cast-count : tie.Need-overflow_cast-count
+overflow_cast-count c = search rules
 
-put-last-page-requires : tie.Need-put-last-page-requires
-put-last-page-requires c κs =
+put_last_page-requires : tie.Need-put_last_page-requires
+put_last_page-requires c κs =
     let k = c.before in
     let t = taking k in
     let pre = (start t).pre in
@@ -92,28 +92,28 @@ put-last-page-requires c κs =
       };
     }
 
-same-length-2 : tie.Need-same-length-2
-same-length-2 c = search rules
+shape_of-body : tie.Need-shape_of-body
+shape_of-body c = search rules
 
-returns-2 : tie.Need-returns-2
-returns-2 c =
+returns : tie.Need-returns
+returns c =
     let put = c.before.before in
     let k = put.before.before in
     let t = taking k in
-    page_placed (desk t) (before t) (counts t) (list t) (after t) (left t) (took k) put.put-last-page.new.0
-    put.put-last-page.ensures
+    page_placed (desk t) (before t) (counts t) (list t) (after t) (left t) (took k) put.put_last_page.new.0
+    put.put_last_page.ensures
 
-pub place-in-page-spec : {M : Type 1} → statement M
-place-in-page-spec =
+pub place_in_page_spec : {M : Type 1} → statement M
+place_in_page_spec =
     tie.close
     (tie.spec
-    page-for-requires
-    enum-known-answer
-    enum_told
+    page_for-answer-requires
+    enum_known-answer
+    enum_told-1
     refusal-requires
-    same_length
-    returns
-    cast-count
-    put-last-page-requires
-    same-length-2
-    returns-2)
+    shape_of-body-in_default
+    returns-in_default
+    overflow_cast-count
+    put_last_page-requires
+    shape_of-body
+    returns)

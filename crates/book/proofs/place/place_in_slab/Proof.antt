@@ -16,7 +16,7 @@ use Rattle.book.proofs.place.place_in_slab.Statement.{statement}
 use Rattle.book.proofs.place.place_in_slab.Tie as tie
 
 -- the arguments, and the space before the take and after it
-module _ (t : tie.After-slab-for) where
+module _ (t : tie.After-slab_for-answer) where
   abbrev start : tie.Start
   start = t.before.before.before.before.before.before
 
@@ -36,52 +36,52 @@ module _ (t : tie.After-slab-for) where
   before = space start.args.body.now start.args.mark.now start.args.free.now
 
   abbrev after : Space
-  after = space t.slab_for.last.0 t.slab_for.last.1.0 t.slab_for.last.1.1.0
+  after = space t.slab_for-answer.last.0 t.slab_for-answer.last.1.0 t.slab_for-answer.last.1.1.0
 
 -- a block was taken
-module _ (k : tie.After-known-told) where
-  abbrev taking : tie.After-slab-for
+module _ (k : tie.In-At) where
+  abbrev taking : tie.After-slab_for-answer
   taking = k.before.before.before.before.before
 
   abbrev taken : TakenFor
-  taken = record { off = k.before.answer.given.0.0; space = after taking; counts = counts taking }
+  taken = record { off = k.before.answer-1.given.0.0; space = after taking; counts = counts taking }
 
   took : slab_for (desk taking) (class taking) (before taking) (counts taking) ≡ accepted taken
   took =
-      took_at (before taking) (counts taking) (after taking) (counts taking) _ taking.slab_for.ensures
-      (ap take_answer k.before.answer.given.1)
+      took_at (before taking) (counts taking) (after taking) (counts taking) _ taking.slab_for-answer.ensures
+      (ap take_answer k.before.answer-1.given.1)
 
-slab-for-requires : tie.Need-slab-for-requires
-slab-for-requires c κs = search rules
+slab_for-answer-requires : tie.Need-slab_for-answer-requires
+slab_for-answer-requires c κs = search rules
 
-enum-known-answer : tie.Need-enum-known-answer
-enum-known-answer c = search rules
+enum_known-answer : tie.Need-enum_known-answer
+enum_known-answer c = search rules
 
-enum_told : tie.Need-enum-told
-enum_told c = search rules
+enum_told-1 : tie.Need-enum_told-1
+enum_told-1 c = search rules
 
 refusal-requires : tie.Need-refusal-requires
 refusal-requires c κs = search rules
 
-same_length : tie.Need-same-length
-same_length c = search rules
+shape_of-body-in_default : tie.Need-shape_of-body-in_default
+shape_of-body-in_default c = search rules
 
-returns : tie.Need-returns
-returns c =
+returns-in_default : tie.Need-returns-in_default
+returns-in_default c =
     let t = c.before.before.before.before.before in
-    let is = refused_as _ _ (ap take_answer c.before.enum_told.given.1) c.refusal.ensures in
+    let is = refused_as _ _ (ap take_answer c.before.enum_told-1.given.1) c.refusal.ensures in
     slab_refused (desk t) (before t) (counts t) (list t) (after t) (counts t) (class t)
-    (took_none (before t) (counts t) (after t) (counts t) (slab_for (desk t) (class t) (before t) (counts t)) t.slab_for.ensures is)
+    (took_none (before t) (counts t) (after t) (counts t) (slab_for (desk t) (class t) (before t) (counts t)) t.slab_for-answer.ensures is)
 
-slab-bytes-requires : tie.Need-slab-bytes-requires
-slab-bytes-requires c κs = search rules
+slab_bytes-size-requires : tie.Need-slab_bytes-size-requires
+slab_bytes-size-requires c κs = search rules
 
-put-slab-requires : tie.Need-put-slab-requires
-put-slab-requires c κs =
+put_slab-requires : tie.Need-put_slab-requires
+put_slab-requires c κs =
     let k = c.before.before in
     let t = taking k in
     let pre = (start t).pre in
-    let size = c.before.slab-bytes.ensures ∙ bytes_fit (class t) (omega (arith, pre.low)) in
+    let size = c.before.slab_bytes-size.ensures ∙ bytes_fit (class t) (omega (arith, pre.low)) in
     let lies = block_lies (class t) (before t) (taken k) pre.shape (omega (arith, pre.low))
     (slab_for_lem (desk t) (before t) (counts t) (class t) (took k)) in
     record {
@@ -91,32 +91,32 @@ put-slab-requires c κs =
       rises = pre.rises;
     }
 
-cast-used : tie.Need-overflow-cast-used
-cast-used c = search rules
+overflow_cast-used : tie.Need-overflow_cast-used
+overflow_cast-used c = search rules
 
-same-length-2 : tie.Need-same-length-2
-same-length-2 c = search rules
+shape_of-body : tie.Need-shape_of-body
+shape_of-body c = search rules
 
-returns-2 : tie.Need-returns-2
-returns-2 c =
+returns : tie.Need-returns
+returns c =
     let put = c.before.before in
     let k = put.before.before.before in
     let t = taking k in
     slab_placed (desk t) (before t) (counts t) (list t) (after t) (counts t) (class t) (took k) put.put_slab.new.0
     put.put_slab.ensures
 
-pub place-in-slab-spec : {M : Type 1} → statement M
-place-in-slab-spec =
+pub place_in_slab_spec : {M : Type 1} → statement M
+place_in_slab_spec =
     tie.close
     (tie.spec
-    slab-for-requires
-    enum-known-answer
-    enum_told
+    slab_for-answer-requires
+    enum_known-answer
+    enum_told-1
     refusal-requires
-    same_length
-    returns
-    slab-bytes-requires
-    put-slab-requires
-    cast-used
-    same-length-2
-    returns-2)
+    shape_of-body-in_default
+    returns-in_default
+    slab_bytes-size-requires
+    put_slab-requires
+    overflow_cast-used
+    shape_of-body
+    returns)

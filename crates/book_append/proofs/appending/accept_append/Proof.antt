@@ -15,11 +15,11 @@ use Rattle.book_append.proofs.appending.accept_append.Tie as tie
 abbrev with_heads : List ℕ → Space → List ℕ → Book
 with_heads heads s counts = record { heads = heads; space = s; counts = counts }
 
-put-head-requires : tie.Need-put-head-requires
-put-head-requires c κs = search rules
+put_head-requires : tie.Need-put_head-requires
+put_head-requires c κs = search rules
 
-same_length : tie.Need-same-length
-same_length c = search rules
+shape_of-heads : tie.Need-shape_of-heads
+shape_of-heads c = search rules
 
 returns : tie.Need-returns
 unfolding book_after answered
@@ -27,9 +27,9 @@ returns c b s counts e =
     let a = c.before.before.before.before.before.args in
     record {
       told = refl;
-      left = ap (λ (h : List ℕ). with_heads h s counts) (c.before.before.put-head.ensures
+      left = ap (λ (h : List ℕ). with_heads h s counts) (c.before.before.put_head.ensures
           ∙ ap (λ (h : List ℕ). set h a.key (head_word a.place)) (sym e));
     }
 
-pub accept-append-spec : {M : Type 1} → statement M
-accept-append-spec = tie.close (tie.spec put-head-requires same_length returns)
+pub accept_append_spec : {M : Type 1} → statement M
+accept_append_spec = tie.close (tie.spec put_head-requires shape_of-heads returns)

@@ -16,77 +16,77 @@ module _ (s : tie.Start) where
   b = book_of s.args.body.now s.args.heads.now s.args.mark.now s.args.free.now s.args.counts.now
 
 -- the shape is kept
-module _ (c : tie.Else1) where
+module _ (c : tie.Else-shape_broken) where
   abbrev start : tie.Start
   start = c.before.before.before.before.before.before
 
   -- the definition's test says so too
   shape : shape_broken (b start).space (length (b start).heads) ≡ false
-  shape = sym (c.before.shape-broken.ensures start.args.free.now) ∙ c.if1.false
+  shape = sym (c.before.shape_broken.ensures start.args.free.now) ∙ c.if-shape_broken.false
 
-shape-broken-requires : tie.Need-shape-broken-requires
-shape-broken-requires c κs = search rules
+shape_broken-requires : tie.Need-shape_broken-requires
+shape_broken-requires c κs = search rules
 
-same_length : tie.Need-same-length
-same_length c = search rules
+shape_of-body-then-shape_broken : tie.Need-shape_of-body-then-shape_broken
+shape_of-body-then-shape_broken c = search rules
 
-returns : tie.Need-returns
-returns c =
+returns-then-shape_broken : tie.Need-returns-then-shape_broken
+returns-then-shape_broken c =
     let t = c.before in
     let s = t.before.before.before.before.before in
     let a = s.args in
     let d = does_none (b s)
-    (append_shape a.desk (b s) a.key a.n (sym (t.shape-broken.ensures a.free.now) ∙ c.if1.true)) in
+    (append_shape a.desk (b s) a.key a.n (sym (t.shape_broken.ensures a.free.now) ∙ c.if-shape_broken.true)) in
     (d.told, d.left)
 
-same-length-2 : tie.Need-same-length-2
-same-length-2 c = search rules
+shape_of-body-then-desk : tie.Need-shape_of-body-then-desk
+shape_of-body-then-desk c = search rules
 
-returns-2 : tie.Need-returns-2
-returns-2 c =
+returns-then-desk : tie.Need-returns-then-desk
+returns-then-desk c =
     let e = c.before in
     let s = start e in
     let a = s.args in
-    let d = does_none (b s) (append_none a.desk (b s) a.key a.n (shape e) c.if2.true) in
+    let d = does_none (b s) (append_none a.desk (b s) a.key a.n (shape e) c.if-desk.true) in
     (d.told, d.left)
 
-same-length-3 : tie.Need-same-length-3
-same-length-3 c = search rules
+shape_of-body-then-heads-key : tie.Need-shape_of-body-then-heads-key
+shape_of-body-then-heads-key c = search rules
 
-returns-3 : tie.Need-returns-3
-returns-3 c =
+returns-then-heads-key : tie.Need-returns-then-heads-key
+returns-then-heads-key c =
     let e = c.before.before in
     let s = start e in
     let a = s.args in
-    let d = does_none (b s) (append_beyond a.desk (b s) a.key a.n (shape e) c.before.if2.false c.if3.true) in
+    let d = does_none (b s) (append_beyond a.desk (b s) a.key a.n (shape e) c.before.if-desk.false c.if-heads-key.true) in
     (d.told, d.left)
 
-append-known-requires : tie.Need-append-known-requires
-append-known-requires c κs =
+append_known-requires : tie.Need-append_known-requires
+append_known-requires c κs =
     let e = c.before.before.before.before.before in
-    record { shape = shape e.before.before; known = e.before.if2.false; keyed = e.if3.false }
+    record { shape = shape e.before.before; known = e.before.if-desk.false; keyed = e.if-heads-key.false }
 
-same-length-4 : tie.Need-same-length-4
-same-length-4 c = search rules
+shape_of-body : tie.Need-shape_of-body
+shape_of-body c = search rules
 
-same-length-5 : tie.Need-same-length-5
-same-length-5 c = search rules
+shape_of-heads : tie.Need-shape_of-heads
+shape_of-heads c = search rules
 
-returns-4 : tie.Need-returns-4
-returns-4 c = let d = c.before.before.before.before.append-known.ensures in (d.told, d.left)
+returns : tie.Need-returns
+returns c = let d = c.before.before.before.before.append_known.ensures in (d.told, d.left)
 
-pub append-spec : {M : Type 1} → statement M
-append-spec =
+pub append_spec : {M : Type 1} → statement M
+append_spec =
     tie.close
     (tie.spec
-    shape-broken-requires
-    same_length
-    returns
-    same-length-2
-    returns-2
-    same-length-3
-    returns-3
-    append-known-requires
-    same-length-4
-    same-length-5
-    returns-4)
+    shape_broken-requires
+    shape_of-body-then-shape_broken
+    returns-then-shape_broken
+    shape_of-body-then-desk
+    returns-then-desk
+    shape_of-body-then-heads-key
+    returns-then-heads-key
+    append_known-requires
+    shape_of-body
+    shape_of-heads
+    returns)

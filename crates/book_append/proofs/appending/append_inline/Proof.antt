@@ -21,7 +21,7 @@ module _ (s : tie.Start) where
   b = book_of s.args.body.now s.args.heads.now s.args.mark.now s.args.free.now s.args.counts.now
 
 -- both numbers were placed, or not
-module _ (p : tie.After-move-list) where
+module _ (p : tie.After-move_list-answer) where
   abbrev start : tie.Start
   start = p.before.before.before.before.before.before.before.before.before
 
@@ -29,25 +29,25 @@ module _ (p : tie.After-move-list) where
   list = start.args.entry ∷ start.args.n ∷ []
 
   abbrev after : Space
-  after = space p.move-list.last.0 p.move-list.last.1.0 p.move-list.last.1.1.0
+  after = space p.move_list-answer.last.0 p.move_list-answer.last.1.0 p.move_list-answer.last.1.1.0
 
   abbrev left : List ℕ
-  left = p.move-list.last.1.1.1.0
+  left = p.move_list-answer.last.1.1.1.0
 
-returns : tie.Need-returns
-returns c used =
+returns-then-n-entry : tie.Need-returns-then-n-entry
+returns-then-n-entry c used =
     let s = c.before.before.before in
     let a = s.args in
-    does_none (b s) (inline_low a.desk (b s) a.key a.n a.entry used c.if1.true)
+    does_none (b s) (inline_low a.desk (b s) a.key a.n a.entry used c.if-n-entry.true)
 
-slice-aggregate-move-list : tie.Need-slice-aggregate-move-list
-slice-aggregate-move-list c = search rules
+slice_bounds-move_list-end : tie.Need-slice_bounds-move_list-end
+slice_bounds-move_list-end c = search rules
 
-move-list-requires : tie.Need-move-list-requires
+move_list-answer-requires : tie.Need-move_list-answer-requires
 unfolding Rising
-move-list-requires c κs =
+move_list-answer-requires c κs =
     let s = c.before.before.before.before.before.before.before.before in
-    let above = c.before.before.before.before.before.if1.false in
+    let above = c.before.before.before.before.before.if-n-entry.false in
     let known = s.requires.to_append in
     record {
       shape = known.shape;
@@ -57,63 +57,63 @@ move-list-requires c κs =
       rises = (s.requires.some, omega (arith, known.low), (omega arith, known.low, tt));
     }
 
-enum-known-answer : tie.Need-enum-known-answer
-enum-known-answer c = search rules
+enum_known-answer : tie.Need-enum_known-answer
+enum_known-answer c = search rules
 
-accept-append-requires : tie.Need-accept-append-requires
-accept-append-requires c κs = search rules
+accept_append-requires : tie.Need-accept_append-requires
+accept_append-requires c κs = search rules
 
-enum-known-answer-2 : tie.Need-enum-known-answer-2
-enum-known-answer-2 c = search rules
+enum_known-answer-in-Refused-1 : tie.Need-enum_known-answer-in-Refused-1
+enum_known-answer-in-Refused-1 c = search rules
 
-same_length : tie.Need-same-length
-same_length c = search rules
+shape_of-body-in-At : tie.Need-shape_of-body-in-At
+shape_of-body-in-At c = search rules
 
-same-length-2 : tie.Need-same-length-2
-same-length-2 c = search rules
+shape_of-heads : tie.Need-shape_of-heads
+shape_of-heads c = search rules
 
-returns-2 : tie.Need-returns-2
-returns-2 c used =
+returns-in-At : tie.Need-returns-in-At
+returns-in-At c used =
     let k = c.before.before.before.before in
     let p = k.before.before.before.before.before in
     let s = start p in
     let a = s.args in
     let here = placed_at (b s).space (b s).counts (after p) (left p) (places_for a.desk (b s).space (b s).counts (list p))
-    p.move-list.ensures
-    (ap place_answer k.before.answer.given.1) in
+    p.move_list-answer.ensures
+    (ap place_answer k.before.answer-1.given.1) in
     does_as
     (inline_yes a.desk (b s) a.key a.n a.entry used
-    (omega (arith, p.before.before.before.before.before.before.if1.false)) here)
-    (c.before.before.accept-append.ensures (b s) (after p) (left p) refl)
+    (omega (arith, p.before.before.before.before.before.before.if-n-entry.false)) here)
+    (c.before.before.accept_append.ensures (b s) (after p) (left p) refl)
 
-same-length-3 : tie.Need-same-length-3
-same-length-3 c = search rules
+shape_of-body-in-Refused : tie.Need-shape_of-body-in-Refused
+shape_of-body-in-Refused c = search rules
 
-returns-3 : tie.Need-returns-3
-returns-3 c used =
+returns-in-Refused : tie.Need-returns-in-Refused
+returns-in-Refused c used =
     let p = c.before.before.before.before.before in
     let s = start p in
     let a = s.args in
     let none = placed_none (b s).space (b s).counts (after p) (left p) (places_for a.desk (b s).space (b s).counts (list p))
-    p.move-list.ensures
-    (ap place_answer c.before.answer2.given.1) in
+    p.move_list-answer.ensures
+    (ap place_answer c.before.answer-in-Refused-1.given.1) in
     does_still (b s)
     (inline_no a.desk (b s) a.key a.n a.entry used
-    (omega (arith, p.before.before.before.before.before.before.if1.false)) none.0)
+    (omega (arith, p.before.before.before.before.before.before.if-n-entry.false)) none.0)
     none.1 none.2
 
-pub append-inline-spec : {M : Type 1} → statement M
-append-inline-spec =
+pub append_inline_spec : {M : Type 1} → statement M
+append_inline_spec =
     tie.close
     (tie.spec
-    returns
-    slice-aggregate-move-list
-    move-list-requires
-    enum-known-answer
-    accept-append-requires
-    enum-known-answer-2
-    same_length
-    same-length-2
-    returns-2
-    same-length-3
-    returns-3)
+    returns-then-n-entry
+    slice_bounds-move_list-end
+    move_list-answer-requires
+    enum_known-answer
+    accept_append-requires
+    enum_known-answer-in-Refused-1
+    shape_of-body-in-At
+    shape_of-heads
+    returns-in-At
+    shape_of-body-in-Refused
+    returns-in-Refused)

@@ -21,13 +21,13 @@ module _ (s : tie.Start) where
   b = book_of s.args.body.now s.args.heads.now s.args.mark.now s.args.free.now s.args.counts.now
 
 -- the number was judged by itself, and passed
-module _ (c : tie.Else1) where
+module _ (c : tie.Else-refusal-ne0) where
   abbrev from : tie.Start
   from = c.before.before.before.before
 
   -- the number is above 0 and below 2^62
   fine : (0 < from.args.n) × (from.args.n < 2 ^ 62)
-  fine = judged_yes from.args.n c.before.judge-number.result c.before.judge-number.ensures c.if1.false
+  fine = judged_yes from.args.n c.before.judge_number-refusal.result c.before.judge_number-refusal.ensures c.if-refusal-ne0.false
 
   -- so an append where the key stands may begin
   known : ToAppend from.args.desk (b from) from.args.key from.args.n
@@ -40,58 +40,58 @@ module _ (c : tie.Else1) where
         fine.1;
   }
 
-judge-number-requires : tie.Need-judge-number-requires
-judge-number-requires c κs = search rules
+judge_number-refusal-requires : tie.Need-judge_number-refusal-requires
+judge_number-refusal-requires c κs = search rules
 
-returns : tie.Need-returns
-returns c =
+returns-then-refusal-ne0 : tie.Need-returns-then-refusal-ne0
+returns-then-refusal-ne0 c =
     let j = c.before in
     let s = j.before.before.before in
     let a = s.args in
-    let is = judged_no (offered_number true 0 a.n (accepted 0)) j.judge-number.result j.judge-number.ensures
-    c.if1.true in
+    let is = judged_no (offered_number true 0 a.n (accepted 0)) j.judge_number-refusal.result j.judge_number-refusal.ensures
+    c.if-refusal-ne0.true in
     does_none (b s) (append_number a.desk (b s) a.key a.n s.requires.shape s.requires.known s.requires.keyed 0 is)
 
-mul-unpack8 : tie.Need-overflow-mul-unpack8
-mul-unpack8 c = search rules
+offset_bounds-heads-at : tie.Need-offset_bounds-heads-at
+offset_bounds-heads-at c = search rules
 
-slice-read-unpack8 : tie.Need-slice-read-unpack8
-slice-read-unpack8 c = search rules
+bounds-heads-at : tie.Need-bounds-heads-at
+bounds-heads-at c = search rules
 
-unpack8-requires : tie.Need-unpack8-requires
-unpack8-requires c κs = search rules
+unpack8-head-requires : tie.Need-unpack8-head-requires
+unpack8-head-requires c κs = search rules
 
-enum-known-head : tie.Need-enum-known-head
-enum-known-head c = search rules
+enum_known-head : tie.Need-enum_known-head
+enum_known-head c = search rules
 
-enum_told : tie.Need-enum-told
-enum_told c = search rules
+enum_told-1 : tie.Need-enum_told-1
+enum_told-1 c = search rules
 
-returns-2 : tie.Need-returns-2
-returns-2 c =
+returns-in_default : tie.Need-returns-in_default
+returns-in_default c =
     let u = c.before.before in
     let e = u.before.before in
     let s = from e in
     let a = s.args in
     let p = s.pre in
-    let is = sym u.unpack8.ensures ∙ ap unpack_answer c.enum_told.given.1 in
+    let is = sym u.unpack8-head.ensures ∙ ap unpack_answer c.enum_told-1.given.1 in
     does_none (b s)
     (append_unsound a.desk (b s) a.key a.n p.shape p.known p.keyed (fine e).0 (fine e).1 is)
 
-append-at-requires : tie.Need-append-at-requires
-append-at-requires c κs =
+append_at-requires : tie.Need-append_at-requires
+append_at-requires c κs =
     let h = c.before.before.before.before.before.before in
     let u = h.before.before in
-    record { to_append = known u.before.before; stands = sym u.unpack8.ensures ∙ ap unpack_answer h.head.given.1 }
+    record { to_append = known u.before.before; stands = sym u.unpack8-head.ensures ∙ ap unpack_answer h.head-1.given.1 }
 
-same_length : tie.Need-same-length
-same_length c = search rules
+shape_of-body : tie.Need-shape_of-body
+shape_of-body c = search rules
 
-same-length-2 : tie.Need-same-length-2
-same-length-2 c = search rules
+shape_of-heads : tie.Need-shape_of-heads
+shape_of-heads c = search rules
 
-returns-3 : tie.Need-returns-3
-returns-3 c =
+returns : tie.Need-returns
+returns c =
     let f = c.before.before.before.before in
     let h = f.before.before.before.before.before.before.before in
     let u = h.before.before in
@@ -99,23 +99,23 @@ returns-3 c =
     let s = from e in
     let a = s.args in
     let p = s.pre in
-    let is = sym u.unpack8.ensures ∙ ap unpack_answer h.head.given.1 in
+    let is = sym u.unpack8-head.ensures ∙ ap unpack_answer h.head-1.given.1 in
     does_as (append_at_lem a.desk (b s) a.key a.n p.shape p.known p.keyed (fine e).0 (fine e).1 is)
     f.append_at.ensures
 
-pub append-known-spec : {M : Type 1} → statement M
-append-known-spec =
+pub append_known_spec : {M : Type 1} → statement M
+append_known_spec =
     tie.close
     (tie.spec
-    judge-number-requires
-    returns
-    mul-unpack8
-    slice-read-unpack8
-    unpack8-requires
-    enum-known-head
-    enum_told
-    returns-2
-    append-at-requires
-    same_length
-    same-length-2
-    returns-3)
+    judge_number-refusal-requires
+    returns-then-refusal-ne0
+    offset_bounds-heads-at
+    bounds-heads-at
+    unpack8-head-requires
+    enum_known-head
+    enum_told-1
+    returns-in_default
+    append_at-requires
+    shape_of-body
+    shape_of-heads
+    returns)

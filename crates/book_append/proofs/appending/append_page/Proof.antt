@@ -22,31 +22,31 @@ module _ (s : tie.Start) where
   b = book_of s.args.body.now s.args.heads.now s.args.mark.now s.args.free.now s.args.counts.now
 
 -- the last page's end was told
-module _ (k : tie.After-known-told) where
-  abbrev ended : tie.After-tail-end
+module _ (k : tie.In-Tail) where
+  abbrev ended : tie.After-tail_end-end
   ended = k.before.before.before
 
   abbrev start : tie.Start
   start = ended.before.before.before.before.before
 
   abbrev taken : ℕ
-  taken = k.before.end.given.0.0
+  taken = k.before.end-1.given.0.0
 
   abbrev fk : ℕ
-  fk = k.before.end.given.0.1.0
+  fk = k.before.end-1.given.0.1.0
 
   abbrev first : ℕ
-  first = k.before.end.given.0.1.1.0
+  first = k.before.end-1.given.0.1.1.0
 
   abbrev creates : ℕ
-  creates = k.before.end.given.0.1.1.1.0
+  creates = k.before.end-1.given.0.1.1.1.0
 
   -- the page is sound, and ends so
   told : TailTold (b start).space start.args.last taken fk first creates
   told =
       let a = start.args in
-      tail_told a.body.now a.mark.now a.free.now a.last ended.tail-end.ensures
-      (ap tail_answer k.before.end.given.1)
+      tail_told a.body.now a.mark.now a.free.now a.last ended.tail_end-end.ensures
+      (ap tail_answer k.before.end-1.given.1)
 
   -- what is known of it then
   sound : SoundTail (b start).space start.args.last told.tail
@@ -56,69 +56,69 @@ module _ (k : tie.After-known-told) where
   within : 24 + taken ≤ page_size
   within = omega (arith, sound.taken_fits, told.taken_is)
 
-tail-end-requires : tie.Need-tail-end-requires
-tail-end-requires c κs = search rules
+tail_end-end-requires : tie.Need-tail_end-end-requires
+tail_end-end-requires c κs = search rules
 
-enum-known-end : tie.Need-enum-known-end
-enum-known-end c = search rules
+enum_known-end : tie.Need-enum_known-end
+enum_known-end c = search rules
 
-enum_told : tie.Need-enum-told
-enum_told c = search rules
+enum_told-1 : tie.Need-enum_told-1
+enum_told-1 c = search rules
 
-same_length : tie.Need-same-length
-same_length c = search rules
+shape_of-body-in_default : tie.Need-shape_of-body-in_default
+shape_of-body-in_default c = search rules
 
-returns : tie.Need-returns
-returns c =
+returns-in_default : tie.Need-returns-in_default
+returns-in_default c =
     let t = c.before.before in
     let s = t.before.before.before.before.before in
     let a = s.args in
-    let is = tail_untold a.body.now a.mark.now a.free.now a.last t.tail-end.ensures
-    (ap tail_answer c.enum_told.given.1) in
+    let is = tail_untold a.body.now a.mark.now a.free.now a.last t.tail_end-end.ensures
+    (ap tail_answer c.enum_told-1.given.1) in
     does_none (b s) (page_unsound a.desk (b s) a.key a.n a.last is.1)
 
-same-length-2 : tie.Need-same-length-2
-same-length-2 c = search rules
+shape_of-body-then-n-fk : tie.Need-shape_of-body-then-n-fk
+shape_of-body-then-n-fk c = search rules
 
-returns-2 : tie.Need-returns-2
-returns-2 c =
+returns-then-n-fk : tie.Need-returns-then-n-fk
+returns-then-n-fk c =
     let k = c.before in
     let a = (start k).args in
-    does_none (b (start k)) (page_low a.desk (b (start k)) a.key a.n a.last (told k) c.if1.true)
+    does_none (b (start k)) (page_low a.desk (b (start k)) a.key a.n a.last (told k) c.if-n-fk.true)
 
-sub-difference : tie.Need-overflow-sub-difference
-sub-difference c = search rules
+overflow_sub-difference : tie.Need-overflow_sub-difference
+overflow_sub-difference c = search rules
 
-add-if2 : tie.Need-overflow-add-if2
-add-if2 c = omega (arith, within c.before)
+overflow_add-taken : tie.Need-overflow_add-taken
+overflow_add-taken c = omega (arith, within c.before)
 
-uleb128-len-requires : tie.Need-uleb128-len-requires
-uleb128-len-requires c κs = search rules
+uleb128_len-requires : tie.Need-uleb128_len-requires
+uleb128_len-requires c κs = search rules
 
-add-if2-2 : tie.Need-overflow-add-if2-2
-add-if2-2 c =
+overflow_add-taken-2 : tie.Need-overflow_add-taken-2
+overflow_add-taken-2 c =
     let k = c.before.before in
-    omega (arith, within k, c.uleb128-len.ensures, len_at_most ((start k).args.n - fk k) (omega (arith, (start k).requires.low)))
+    omega (arith, within k, c.uleb128_len.ensures, len_at_most ((start k).args.n - fk k) (omega (arith, (start k).requires.low)))
 
-grow-chain-requires : tie.Need-grow-chain-requires
-grow-chain-requires c κs =
+grow_chain-requires : tie.Need-grow_chain-requires
+grow_chain-requires c κs =
     let l = c.before.before.before.before.before.before in
     let k = l.before.before in
     let a = (start k).args in
-    page_full a.desk (b (start k)) a.key a.n a.last (told k) (omega (arith, l.before.if1.false)) (start k).requires
-    (omega (arith, l.uleb128-len.ensures, c.before.before.before.before.before.if2.true))
+    page_full a.desk (b (start k)) a.key a.n a.last (told k) (omega (arith, l.before.if-n-fk.false)) (start k).requires
+    (omega (arith, l.uleb128_len.ensures, c.before.before.before.before.before.if-taken-uleb128_len-gt-SH_PAGE_SIZE.true))
 
-same-length-3 : tie.Need-same-length-3
-same-length-3 c = search rules
+shape_of-body-then-taken-uleb128_len-gt-SH_PAGE_SIZE : tie.Need-shape_of-body-then-taken-uleb128_len-gt-SH_PAGE_SIZE
+shape_of-body-then-taken-uleb128_len-gt-SH_PAGE_SIZE c = search rules
 
-same-length-4 : tie.Need-same-length-4
-same-length-4 c = search rules
+shape_of-heads-then-taken-uleb128_len-gt-SH_PAGE_SIZE : tie.Need-shape_of-heads-then-taken-uleb128_len-gt-SH_PAGE_SIZE
+shape_of-heads-then-taken-uleb128_len-gt-SH_PAGE_SIZE c = search rules
 
-returns-3 : tie.Need-returns-3
-returns-3 c = search rules
+returns-then-taken-uleb128_len-gt-SH_PAGE_SIZE : tie.Need-returns-then-taken-uleb128_len-gt-SH_PAGE_SIZE
+returns-then-taken-uleb128_len-gt-SH_PAGE_SIZE c = search rules
 
-grow-page-requires : tie.Need-grow-page-requires
-grow-page-requires c κs =
+grow_page-requires : tie.Need-grow_page-requires
+grow_page-requires c κs =
     let l = c.before.before in
     let k = l.before.before in
     let known = sound k in
@@ -128,53 +128,53 @@ grow-page-requires c κs =
       grows = record {
         version_is = eqb-true _ 2 known.names;
         few = omega (arith, known.few);
-        fits = omega (arith, l.uleb128-len.ensures, c.before.if2.false);
+        fits = omega (arith, l.uleb128_len.ensures, c.before.if-taken-uleb128_len-gt-SH_PAGE_SIZE.false);
       };
     }
 
-accept-append-requires : tie.Need-accept-append-requires
-accept-append-requires c κs = search rules
+accept_append-requires : tie.Need-accept_append-requires
+accept_append-requires c κs = search rules
 
-same-length-5 : tie.Need-same-length-5
-same-length-5 c = search rules
+shape_of-body : tie.Need-shape_of-body
+shape_of-body c = search rules
 
-same-length-6 : tie.Need-same-length-6
-same-length-6 c = search rules
+shape_of-heads : tie.Need-shape_of-heads
+shape_of-heads c = search rules
 
-returns-4 : tie.Need-returns-4
-returns-4 c =
+returns : tie.Need-returns
+returns c =
     let g = c.before.before.before.before.before.before in
     let l = g.before.before.before in
     let k = l.before.before in
     let a = (start k).args in
     does_as
-    (page_stays a.desk (b (start k)) a.key a.n a.last (told k) (omega (arith, l.before.if1.false))
-    (omega (arith, l.uleb128-len.ensures, g.before.before.if2.false))
-    g.grow-page.new.0 g.grow-page.ensures)
-    (c.before.before.accept-append.ensures (b (start k)) (space g.grow-page.new.0 a.mark.now a.free.now)
+    (page_stays a.desk (b (start k)) a.key a.n a.last (told k) (omega (arith, l.before.if-n-fk.false))
+    (omega (arith, l.uleb128_len.ensures, g.before.before.if-taken-uleb128_len-gt-SH_PAGE_SIZE.false))
+    g.grow_page.new.0 g.grow_page.ensures)
+    (c.before.before.accept_append.ensures (b (start k)) (space g.grow_page.new.0 a.mark.now a.free.now)
     a.counts.now refl)
 
-pub append-page-spec : {M : Type 1} → statement M
-append-page-spec =
+pub append_page_spec : {M : Type 1} → statement M
+append_page_spec =
     tie.close
     (tie.spec
-    tail-end-requires
-    enum-known-end
-    enum_told
-    same_length
-    returns
-    same-length-2
-    returns-2
-    sub-difference
-    add-if2
-    uleb128-len-requires
-    add-if2-2
-    grow-chain-requires
-    same-length-3
-    same-length-4
-    returns-3
-    grow-page-requires
-    accept-append-requires
-    same-length-5
-    same-length-6
-    returns-4)
+    tail_end-end-requires
+    enum_known-end
+    enum_told-1
+    shape_of-body-in_default
+    returns-in_default
+    shape_of-body-then-n-fk
+    returns-then-n-fk
+    overflow_sub-difference
+    overflow_add-taken
+    uleb128_len-requires
+    overflow_add-taken-2
+    grow_chain-requires
+    shape_of-body-then-taken-uleb128_len-gt-SH_PAGE_SIZE
+    shape_of-heads-then-taken-uleb128_len-gt-SH_PAGE_SIZE
+    returns-then-taken-uleb128_len-gt-SH_PAGE_SIZE
+    grow_page-requires
+    accept_append-requires
+    shape_of-body
+    shape_of-heads
+    returns)

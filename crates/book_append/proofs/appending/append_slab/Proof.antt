@@ -27,25 +27,25 @@ module _ (s : tie.Start) where
   b = book_of s.args.body.now s.args.heads.now s.args.mark.now s.args.free.now s.args.counts.now
 
 -- the slab's end was told
-module _ (k : tie.After-known-told) where
-  abbrev ended : tie.After-slab-end
+module _ (k : tie.In-Scanned) where
+  abbrev ended : tie.After-slab_end-end
   ended = k.before.before.before
 
   abbrev start : tie.Start
   start = ended.before.before.before.before.before
 
   abbrev taken : ℕ
-  taken = k.before.end.given.0.0
+  taken = k.before.end-1.given.0.0
 
   abbrev last : ℕ
-  last = k.before.end.given.0.1.0
+  last = k.before.end-1.given.0.1.0
 
   -- the slab is sound, and ends so
   told : SlabTold (b start).space start.args.class start.args.used start.args.off taken last
   told =
       let a = start.args in
       slab_told a.body.now a.mark.now a.free.now a.class a.used a.off
-      ended.slab-end.ensures (ap scan_answer k.before.end.given.1)
+      ended.slab_end-end.ensures (ap scan_answer k.before.end-1.given.1)
 
   -- what is known of it then
   sound : SoundSlab (seen (b start).space) start.args.class start.args.used start.args.off told.scan
@@ -57,7 +57,7 @@ module _ (k : tie.After-known-told) where
 
 -- whether the number stays was told
 module _ (t : tie.After-stays) where
-  abbrev known : tie.After-known-told
+  abbrev known : tie.In-Scanned
   known = t.before.before.before
 
   abbrev more : ℕ
@@ -68,14 +68,14 @@ module _ (t : tie.After-stays) where
       → stays (start known).args.class ((start known).args.used + 1) (taken known + more) ≡ holds
   test e =
       sym (t.stays.ensures ∙ ap (λ (len : ℕ). stays (start known).args.class ((start known).args.used + 1) (taken known + len))
-      t.before.uleb128-len.ensures) ∙ e
+      t.before.uleb128_len.ensures) ∙ e
 
   -- it is above the last
   above : last known < (start known).args.n
-  above = omega (arith, t.before.before.if1.left)
+  above = omega (arith, t.before.before.if-n-last.left)
 
 -- it stays, and the slab's size was computed
-module _ (c : tie.After-slab-bytes) where
+module _ (c : tie.After-slab_bytes-size) where
   abbrev staying : tie.After-stays
   staying = c.before.before
 
@@ -83,52 +83,52 @@ module _ (c : tie.After-slab-bytes) where
   from = start (known staying)
 
   -- the size is that of its class
-  size : c.slab-bytes.result ≡ slab_bytes from.args.class
-  size = slab_size from.args.class _ (sound (known staying)).class_to_7 c.slab-bytes.ensures
+  size : c.slab_bytes-size.result ≡ slab_bytes from.args.class
+  size = slab_size from.args.class _ (sound (known staying)).class_to_7 c.slab_bytes-size.ensures
 
-slab-end-requires : tie.Need-slab-end-requires
-slab-end-requires c κs = search rules
+slab_end-end-requires : tie.Need-slab_end-end-requires
+slab_end-end-requires c κs = search rules
 
-enum-known-end : tie.Need-enum-known-end
-enum-known-end c = search rules
+enum_known-end : tie.Need-enum_known-end
+enum_known-end c = search rules
 
-enum_told : tie.Need-enum-told
-enum_told c = search rules
+enum_told-1 : tie.Need-enum_told-1
+enum_told-1 c = search rules
 
-same_length : tie.Need-same-length
-same_length c = search rules
+shape_of-body-in_default : tie.Need-shape_of-body-in_default
+shape_of-body-in_default c = search rules
 
-returns : tie.Need-returns
-returns c =
+returns-in_default : tie.Need-returns-in_default
+returns-in_default c =
     let t = c.before.before in
     let s = t.before.before.before.before.before in
     let a = s.args in
-    let is = slab_untold a.body.now a.mark.now a.free.now a.class a.used a.off t.slab-end.ensures
-    (ap scan_answer c.enum_told.given.1) in
+    let is = slab_untold a.body.now a.mark.now a.free.now a.class a.used a.off t.slab_end-end.ensures
+    (ap scan_answer c.enum_told-1.given.1) in
     does_none (b s) (slab_unsound a.desk (b s) a.key a.n a.class a.used a.off is.1)
 
-same-length-2 : tie.Need-same-length-2
-same-length-2 c = search rules
+shape_of-body-then-n-last : tie.Need-shape_of-body-then-n-last
+shape_of-body-then-n-last c = search rules
 
-returns-2 : tie.Need-returns-2
-returns-2 c =
+returns-then-n-last : tie.Need-returns-then-n-last
+returns-then-n-last c =
     let k = c.before in
     let a = (start k).args in
-    does_none (b (start k)) (slab_low a.desk (b (start k)) a.key a.n a.class a.used a.off (told k) c.if1.true)
+    does_none (b (start k)) (slab_low a.desk (b (start k)) a.key a.n a.class a.used a.off (told k) c.if-n-last.true)
 
-sub-difference : tie.Need-overflow-sub-difference
-sub-difference c = search rules
+overflow_sub-difference : tie.Need-overflow_sub-difference
+overflow_sub-difference c = search rules
 
-add-stays : tie.Need-overflow-add-stays
-add-stays c = search rules
+overflow_add-used : tie.Need-overflow_add-used
+overflow_add-used c = search rules
 
-uleb128-len-requires : tie.Need-uleb128-len-requires
-uleb128-len-requires c κs = search rules
+uleb128_len-requires : tie.Need-uleb128_len-requires
+uleb128_len-requires c κs = search rules
 
-add-stays-2 : tie.Need-overflow-add-stays-2
-add-stays-2 c =
+overflow_add-taken : tie.Need-overflow_add-taken
+overflow_add-taken c =
     let k = c.before.before in
-    omega (arith, few k, c.uleb128-len.ensures, len_at_most ((start k).args.n - last k) (omega (arith, (start k).requires.low)))
+    omega (arith, few k, c.uleb128_len.ensures, len_at_most ((start k).args.n - last k) (omega (arith, (start k).requires.low)))
 
 stays-requires : tie.Need-stays-requires
 stays-requires c κs =
@@ -137,93 +137,93 @@ stays-requires c κs =
       omega (
         arith,
         few k,
-        c.uleb128-len.ensures,
+        c.uleb128_len.ensures,
         len_at_most ((start k).args.n - last k)
             (omega (arith, (start k).requires.low)),
       ),
     )
 
-slab-bytes-requires : tie.Need-slab-bytes-requires
-slab-bytes-requires c κs = search rules
+slab_bytes-size-requires : tie.Need-slab_bytes-size-requires
+slab_bytes-size-requires c κs = search rules
 
-grow-slab-requires : tie.Need-grow-slab-requires
-grow-slab-requires c κs =
+grow_slab-requires : tie.Need-grow_slab-requires
+grow_slab-requires c κs =
     let d = c.before in
     let known-slab = sound (known (staying d)) in
     let a = (from d).args in
     let stands = block_stands a.class a.off a.mark.now known-slab.stands in
-    let holds = stays_holds a.class (a.used + 1) _ (test (staying d) d.before.if2.true) in
+    let holds = stays_holds a.class (a.used + 1) _ (test (staying d) d.before.if-stays.true) in
     record {
       inside = omega (arith, size d, stands.ends, (from d).requires.shape.within);
       few = omega (arith, known-slab.used_to_256);
       fits = omega (arith, size d, holds.2);
     }
 
-add-t32 : tie.Need-overflow-add-t32
-add-t32 c = omega (arith, (sound (known (staying c.before.before.before.before))).used_to_256)
+overflow_add-place : tie.Need-overflow_add-place
+overflow_add-place c = omega (arith, (sound (known (staying c.before.before.before.before))).used_to_256)
 
-accept-append-requires : tie.Need-accept-append-requires
-accept-append-requires c κs = search rules
+accept_append-requires : tie.Need-accept_append-requires
+accept_append-requires c κs = search rules
 
-same-length-3 : tie.Need-same-length-3
-same-length-3 c = search rules
+shape_of-body-then-stays : tie.Need-shape_of-body-then-stays
+shape_of-body-then-stays c = search rules
 
-same-length-4 : tie.Need-same-length-4
-same-length-4 c = search rules
+shape_of-heads-then-stays : tie.Need-shape_of-heads-then-stays
+shape_of-heads-then-stays c = search rules
 
-returns-3 : tie.Need-returns-3
-returns-3 c =
+returns-then-stays : tie.Need-returns-then-stays
+returns-then-stays c =
     let g = c.before.before.before.before.before.before in
     let d = g.before.before in
     let a = (from d).args in
     does_as
     (slab_stays a.desk (b (from d)) a.key a.n a.class a.used a.off (told (known (staying d))) (above (staying d))
-    (test (staying d) d.before.if2.true)
-    d.slab-bytes.result (size d) g.grow-slab.new.0 g.grow-slab.ensures)
-    (c.before.before.accept-append.ensures (b (from d)) (space g.grow-slab.new.0 a.mark.now a.free.now)
+    (test (staying d) d.before.if-stays.true)
+    d.slab_bytes-size.result (size d) g.grow_slab.new.0 g.grow_slab.ensures)
+    (c.before.before.accept_append.ensures (b (from d)) (space g.grow_slab.new.0 a.mark.now a.free.now)
     a.counts.now refl)
 
-move-slab-requires : tie.Need-move-slab-requires
-move-slab-requires c κs =
+move_slab-requires : tie.Need-move_slab-requires
+move_slab-requires c κs =
     let t = c.before.before.before.before.before.before in
     let s = start (known t) in
     let a = s.args in
     slab_leaves a.desk (b s) a.key a.n a.class a.used a.off (told (known t)) (above t) s.pre
-    (test t c.before.before.before.before.before.if2.false)
+    (test t c.before.before.before.before.before.if-stays.false)
 
-same-length-5 : tie.Need-same-length-5
-same-length-5 c = search rules
+shape_of-body : tie.Need-shape_of-body
+shape_of-body c = search rules
 
-same-length-6 : tie.Need-same-length-6
-same-length-6 c = search rules
+shape_of-heads : tie.Need-shape_of-heads
+shape_of-heads c = search rules
 
-returns-4 : tie.Need-returns-4
-returns-4 c = search rules
+returns : tie.Need-returns
+returns c = search rules
 
-pub append-slab-spec : {M : Type 1} → statement M
-append-slab-spec =
+pub append_slab_spec : {M : Type 1} → statement M
+append_slab_spec =
     tie.close
     (tie.spec
-    slab-end-requires
-    enum-known-end
-    enum_told
-    same_length
-    returns
-    same-length-2
-    returns-2
-    sub-difference
-    add-stays
-    uleb128-len-requires
-    add-stays-2
+    slab_end-end-requires
+    enum_known-end
+    enum_told-1
+    shape_of-body-in_default
+    returns-in_default
+    shape_of-body-then-n-last
+    returns-then-n-last
+    overflow_sub-difference
+    overflow_add-used
+    uleb128_len-requires
+    overflow_add-taken
     stays-requires
-    slab-bytes-requires
-    grow-slab-requires
-    add-t32
-    accept-append-requires
-    same-length-3
-    same-length-4
-    returns-3
-    move-slab-requires
-    same-length-5
-    same-length-6
-    returns-4)
+    slab_bytes-size-requires
+    grow_slab-requires
+    overflow_add-place
+    accept_append-requires
+    shape_of-body-then-stays
+    shape_of-heads-then-stays
+    returns-then-stays
+    move_slab-requires
+    shape_of-body
+    shape_of-heads
+    returns)

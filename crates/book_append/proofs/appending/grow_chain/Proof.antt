@@ -24,7 +24,7 @@ use Rattle.book_append.proofs.appending.grow_chain.Statement.{statement}
 use Rattle.book_append.proofs.appending.grow_chain.Tie as tie
 
 -- the arguments, the book before, and the space after the take
-module _ (t : tie.After-page-for) where
+module _ (t : tie.After-page_for-answer) where
   abbrev start : tie.Start
   start = t.before.before.before.before.before.before.before
 
@@ -32,10 +32,10 @@ module _ (t : tie.After-page-for) where
   b = book_of start.args.body.now start.args.heads.now start.args.mark.now start.args.free.now start.args.counts.now
 
   abbrev after : Space
-  after = space t.page_for.last.0 t.page_for.last.1.0 t.page_for.last.1.1.0
+  after = space t.page_for-answer.last.0 t.page_for-answer.last.1.0 t.page_for-answer.last.1.1.0
 
   abbrev left : List ℕ
-  left = t.page_for.last.1.1.1.0
+  left = t.page_for-answer.last.1.1.1.0
 
   -- the old last page is sound
   sound : SoundTail b.space start.args.last start.pre.tail
@@ -47,12 +47,12 @@ module _ (t : tie.After-page-for) where
       page_inside (seen b.space) start.args.last sound.stands start.args.body.now start.pre.to_append.shape.within
 
 -- a page was taken
-module _ (k : tie.After-known-told) where
-  abbrev taking : tie.After-page-for
+module _ (k : tie.In-At) where
+  abbrev taking : tie.After-page_for-answer
   taking = k.before.before.before.before.before
 
   abbrev off : ℕ
-  off = k.before.answer.given.0.0
+  off = k.before.answer-1.given.0.0
 
   abbrev taken : TakenFor
   taken = record { off = off; space = after taking; counts = left taking }
@@ -60,46 +60,46 @@ module _ (k : tie.After-known-told) where
   -- the take is of that page
   took : page_for (start taking).args.desk (b taking).space (b taking).counts ≡ accepted taken
   took =
-      took_at (b taking).space (b taking).counts (after taking) (left taking) _ taking.page_for.ensures
-      (ap take_answer k.before.answer.given.1)
+      took_at (b taking).space (b taking).counts (after taking) (left taking) _ taking.page_for-answer.ensures
+      (ap take_answer k.before.answer-1.given.1)
 
-page-for-requires : tie.Need-page-for-requires
-page-for-requires c κs = search rules
+page_for-answer-requires : tie.Need-page_for-answer-requires
+page_for-answer-requires c κs = search rules
 
-enum-known-answer : tie.Need-enum-known-answer
-enum-known-answer c = search rules
+enum_known-answer : tie.Need-enum_known-answer
+enum_known-answer c = search rules
 
-enum_told : tie.Need-enum-told
-enum_told c = search rules
+enum_told-1 : tie.Need-enum_told-1
+enum_told-1 c = search rules
 
 refusal-requires : tie.Need-refusal-requires
 refusal-requires c κs = search rules
 
-same_length : tie.Need-same-length
-same_length c = search rules
+shape_of-body-in_default : tie.Need-shape_of-body-in_default
+shape_of-body-in_default c = search rules
 
-returns : tie.Need-returns
-returns c =
+returns-in_default : tie.Need-returns-in_default
+returns-in_default c =
     let t = c.before.before.before.before.before in
     let a = (start t).args in
-    let is = refused_as _ _ (ap take_answer c.before.enum_told.given.1) c.refusal.ensures in
+    let is = refused_as _ _ (ap take_answer c.before.enum_told-1.given.1) c.refusal.ensures in
     let none = took_none (b t).space (b t).counts (after t) (left t) (page_for a.desk (b t).space (b t).counts)
-    t.page_for.ensures is in
+    t.page_for-answer.ensures is in
     does_still (b t)
     (chain_no a.desk (b t) a.key a.n a.last a.first a.creates (start t).requires none.0)
     none.1 none.2
 
-link-page-requires : tie.Need-link-page-requires
-link-page-requires c κs = let h = last_inside (taking c.before) in omega arith
+link_page-requires : tie.Need-link_page-requires
+link_page-requires c κs = let h = last_inside (taking c.before) in omega arith
 
-total-with-requires : tie.Need-total-with-requires
-total-with-requires c κs = search rules
+total_with-total-requires : tie.Need-total_with-total-requires
+total_with-total-requires c κs = search rules
 
-slice-aggregate-put-last-page : tie.Need-slice-aggregate-put-last-page
-slice-aggregate-put-last-page c = search rules
+slice_bounds-put_last_page-end : tie.Need-slice_bounds-put_last_page-end
+slice_bounds-put_last_page-end c = search rules
 
-put-last-page-requires : tie.Need-put-last-page-requires
-put-last-page-requires c κs =
+put_last_page-requires : tie.Need-put_last_page-requires
+put_last_page-requires c κs =
     let k = c.before.before.before.before.before.before.before in
     let t = taking k in
     let pre = (start t).pre.to_append in
@@ -114,17 +114,17 @@ put-last-page-requires c κs =
       };
     }
 
-accept-append-requires : tie.Need-accept-append-requires
-accept-append-requires c κs = search rules
+accept_append-requires : tie.Need-accept_append-requires
+accept_append-requires c κs = search rules
 
-same-length-2 : tie.Need-same-length-2
-same-length-2 c = search rules
+shape_of-body : tie.Need-shape_of-body
+shape_of-body c = search rules
 
-same-length-3 : tie.Need-same-length-3
-same-length-3 c = search rules
+shape_of-heads : tie.Need-shape_of-heads
+shape_of-heads c = search rules
 
-returns-2 : tie.Need-returns-2
-returns-2 c =
+returns : tie.Need-returns
+returns c =
     let written = c.before.before.before.before.before.before in
     let total = written.before.before.before in
     let linked = total.before.before.before in
@@ -132,30 +132,30 @@ returns-2 c =
     let t = taking k in
     let a = (start t).args in
     does_as
-    (chain_yes a.desk (b t) a.key a.n a.last a.first a.creates (start t).pre linked.link-page.new.0
-    written.put-last-page.new.0 (took k)
-    linked.link-page.ensures
-    (written.put-last-page.ensures
-    ∙ ap (λ (n : ℕ). overwrite linked.link-page.new.0 (off k) (last_page_of a.first (off k) 1 n (a.n ∷ [])))
-    total.total-with.ensures))
-    (c.before.before.accept-append.ensures (b t) (space written.put-last-page.new.0 (after t).mark (after t).free)
+    (chain_yes a.desk (b t) a.key a.n a.last a.first a.creates (start t).pre linked.link_page.new.0
+    written.put_last_page.new.0 (took k)
+    linked.link_page.ensures
+    (written.put_last_page.ensures
+    ∙ ap (λ (n : ℕ). overwrite linked.link_page.new.0 (off k) (last_page_of a.first (off k) 1 n (a.n ∷ [])))
+    total.total_with-total.ensures))
+    (c.before.before.accept_append.ensures (b t) (space written.put_last_page.new.0 (after t).mark (after t).free)
     (left t) refl)
 
-pub grow-chain-spec : {M : Type 1} → statement M
-grow-chain-spec =
+pub grow_chain_spec : {M : Type 1} → statement M
+grow_chain_spec =
     tie.close
     (tie.spec
-    page-for-requires
-    enum-known-answer
-    enum_told
+    page_for-answer-requires
+    enum_known-answer
+    enum_told-1
     refusal-requires
-    same_length
-    returns
-    link-page-requires
-    total-with-requires
-    slice-aggregate-put-last-page
-    put-last-page-requires
-    accept-append-requires
-    same-length-2
-    same-length-3
-    returns-2)
+    shape_of-body-in_default
+    returns-in_default
+    link_page-requires
+    total_with-total-requires
+    slice_bounds-put_last_page-end
+    put_last_page-requires
+    accept_append-requires
+    shape_of-body
+    shape_of-heads
+    returns)

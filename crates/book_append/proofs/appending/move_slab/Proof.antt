@@ -32,13 +32,13 @@ module _ (s : tie.Start) where
   sound = slab_sound (seen b.space) s.args.class s.args.used s.args.off s.pre.scan s.pre.sound
 
 -- the list was read
-module _ (r : tie.After-slab-into) where
+module _ (r : tie.After-slab_into) where
   abbrev start : tie.Start
   start = r.before.before.before.before.before
 
   -- the list with the number behind it, as it is placed
   abbrev list : List ℕ
-  list = take (start.args.used + 1 - 0) (set r.slab-into.last.1.1.1.0 start.args.used start.args.n)
+  list = take (start.args.used + 1 - 0) (set r.slab_into.last.1.1.1.0 start.args.used start.args.n)
 
   abbrev numbers : List ℕ
   numbers = start.pre.scan.numbers
@@ -48,11 +48,11 @@ module _ (r : tie.After-slab-into) where
   few = omega (arith, (sound start).counted, (sound start).used_to_256)
 
   -- the list was read to the array's start
-  read_is : r.slab-into.last.1.1.1.0 ≡ overwrite (replicate 257 0) 0 numbers
+  read_is : r.slab_into.last.1.1.1.0 ≡ overwrite (replicate 257 0) 0 numbers
   read_is =
       let a = start.args in
       let there = slab_free a.body.now a.mark.now a.free.now a.class a.used a.off ∙ start.pre.sound in
-      r.slab-into.ensures a.mark.now a.used start.pre.scan (soundly_yes _ there) (omega (arith, few))
+      r.slab_into.ensures a.mark.now a.used start.pre.scan (soundly_yes _ there) (omega (arith, few))
 
   -- what is placed is the list and the number
   list_is : list ≡ numbers ++ (start.args.n ∷ [])
@@ -60,7 +60,7 @@ module _ (r : tie.After-slab-into) where
       (omega (arith, few, (sound start).counted)) read_is
 
   -- the array stays as long
-  room : length (set r.slab-into.last.1.1.1.0 start.args.used start.args.n) ≡ 257
+  room : length (set r.slab_into.last.1.1.1.0 start.args.used start.args.n) ≡ 257
   room = simp length-set (ap length read_is ∙ length_overwrite (replicate 257 0) 0 numbers (omega (arith, few)))
 
   -- what is placed is one longer than the list
@@ -68,47 +68,47 @@ module _ (r : tie.After-slab-into) where
   long = ap length list_is ∙ simp length-append (omega (arith, (sound start).counted))
 
 -- the list was placed, or not
-module _ (p : tie.After-move-list) where
-  abbrev read : tie.After-slab-into
+module _ (p : tie.After-move_list-answer) where
+  abbrev read : tie.After-slab_into
   read = p.before.before.before.before.before.before.before.before
 
   abbrev after : Space
-  after = space p.move-list.last.0 p.move-list.last.1.0 p.move-list.last.1.1.0
+  after = space p.move_list-answer.last.0 p.move_list-answer.last.1.0 p.move_list-answer.last.1.1.0
 
   abbrev left : List ℕ
-  left = p.move-list.last.1.1.1.0
+  left = p.move_list-answer.last.1.1.1.0
 
-slice-aggregate-slab-into : tie.Need-slice-aggregate-slab-into
-slice-aggregate-slab-into c = search rules
+slice_bounds-slab_into-end : tie.Need-slice_bounds-slab_into-end
+slice_bounds-slab_into-end c = search rules
 
-slab-into-requires : tie.Need-slab-into-requires
-slab-into-requires c κs =
+slab_into-requires : tie.Need-slab_into-requires
+slab_into-requires c κs =
     let s = c.before.before.before.before in
     let known = sound s in
     let stands = block_stands s.args.class s.args.off s.args.mark.now known.stands in
     (known.class_to_7, omega (arith, stands.ends, s.requires.to_append.shape.within))
 
-mul-list : tie.Need-overflow-mul-list
-mul-list c = search rules
+offset_bounds-list-held : tie.Need-offset_bounds-list-held
+offset_bounds-list-held c = search rules
 
-array-write-list : tie.Need-array-write-list
-array-write-list c = omega (arith, (sound (start c.before)).used_to_256)
+bounds-list-held : tie.Need-bounds-list-held
+bounds-list-held c = omega (arith, (sound (start c.before)).used_to_256)
 
-add-move-list : tie.Need-overflow-add-move-list
-add-move-list c = search rules
+overflow_add-held : tie.Need-overflow_add-held
+overflow_add-held c = search rules
 
-sub-move-list : tie.Need-overflow-sub-move-list
-sub-move-list c = search rules
+slice_bounds-move_list-count : tie.Need-slice_bounds-move_list-count
+slice_bounds-move_list-count c = search rules
 
-part-move-list-start : tie.Need-slice-bounds-move-list-start
-part-move-list-start c = search rules
+slice_bounds-move_list-start : tie.Need-slice_bounds-move_list-start
+slice_bounds-move_list-start c = search rules
 
-part-move-list-end : tie.Need-slice-bounds-move-list-end
-part-move-list-end c = let r = c.before.before.before.before.before.before in let size = room r in omega
+slice_bounds-move_list-end : tie.Need-slice_bounds-move_list-end
+slice_bounds-move_list-end c = let r = c.before.before.before.before.before.before in let size = room r in omega
     (arith, (sound (start r)).used_to_256)
 
-move-list-requires : tie.Need-move-list-requires
-move-list-requires c κs =
+move_list-answer-requires : tie.Need-move_list-answer-requires
+move_list-answer-requires c κs =
     let r = c.before.before.before.before.before.before.before in
     let s = start r in
     let known = sound s in
@@ -120,77 +120,77 @@ move-list-requires c κs =
       rises = rw (list_is r) (rises_behind _ s.args.n known.rising s.pre.above s.pre.to_append.low);
     }
 
-enum-known-answer : tie.Need-enum-known-answer
-enum-known-answer c = search rules
+enum_known-answer : tie.Need-enum_known-answer
+enum_known-answer c = search rules
 
-release-block-requires : tie.Need-release-block-requires
-release-block-requires c κs =
+release_block-requires : tie.Need-release_block-requires
+release_block-requires c κs =
     let s = start (read c.before.before.before.before.before.before.before) in
     stands_further s.args.class s.args.off s.args.mark.now _ (omega (arith, s.pre.to_append.shape.within))
     (sound s).stands
 
-accept-append-requires : tie.Need-accept-append-requires
-accept-append-requires c κs = search rules
+accept_append-requires : tie.Need-accept_append-requires
+accept_append-requires c κs = search rules
 
-enum-known-answer-2 : tie.Need-enum-known-answer-2
-enum-known-answer-2 c = search rules
+enum_known-answer-in-Refused-1 : tie.Need-enum_known-answer-in-Refused-1
+enum_known-answer-in-Refused-1 c = search rules
 
-same_length : tie.Need-same-length
-same_length c = search rules
+shape_of-body-in-At : tie.Need-shape_of-body-in-At
+shape_of-body-in-At c = search rules
 
-same-length-2 : tie.Need-same-length-2
-same-length-2 c = search rules
+shape_of-heads : tie.Need-shape_of-heads
+shape_of-heads c = search rules
 
-returns : tie.Need-returns
-returns c =
+returns-in-At : tie.Need-returns-in-At
+returns-in-At c =
     let f = c.before.before.before.before.before.before in
     let k = f.before.before.before in
     let p = k.before.before.before.before.before in
     let r = read p in
     let a = (start r).args in
-    let freed = space f.release-block.new.0 (after p).mark f.release-block.new.1.0 in
+    let freed = space f.release_block.new.0 (after p).mark f.release_block.new.1.0 in
     let here = placed_at (b (start r)).space (b (start r)).counts (after p) (left p)
-    (places_for a.desk (b (start r)).space (b (start r)).counts (list r)) p.move-list.ensures
-    (ap place_answer k.before.answer.given.1) in
+    (places_for a.desk (b (start r)).space (b (start r)).counts (list r)) p.move_list-answer.ensures
+    (ap place_answer k.before.answer-1.given.1) in
     does_as
     (slab_moved a.desk (b (start r)) a.key a.n a.class a.used a.off (start r).pre (list r) (list_is r)
-    freed here (f.release-block.ensures (after p).mark))
-    (c.before.before.accept-append.ensures (b (start r)) freed (left p) refl)
+    freed here (f.release_block.ensures (after p).mark))
+    (c.before.before.accept_append.ensures (b (start r)) freed (left p) refl)
 
-same-length-3 : tie.Need-same-length-3
-same-length-3 c = search rules
+shape_of-body-in-Refused : tie.Need-shape_of-body-in-Refused
+shape_of-body-in-Refused c = search rules
 
-returns-2 : tie.Need-returns-2
-returns-2 c =
+returns-in-Refused : tie.Need-returns-in-Refused
+returns-in-Refused c =
     let p = c.before.before.before.before.before in
     let r = read p in
     let a = (start r).args in
     let none = placed_none (b (start r)).space (b (start r)).counts (after p) (left p)
-    (places_for a.desk (b (start r)).space (b (start r)).counts (list r)) p.move-list.ensures
-    (ap place_answer c.before.answer2.given.1) in
+    (places_for a.desk (b (start r)).space (b (start r)).counts (list r)) p.move_list-answer.ensures
+    (ap place_answer c.before.answer-in-Refused-1.given.1) in
     does_still (b (start r))
     (slab_unmoved a.desk (b (start r)) a.key a.n a.class a.used a.off (start r).pre (list r) (list_is r) none.0)
     none.1 none.2
 
-pub move-slab-spec : {M : Type 1} → statement M
-move-slab-spec =
+pub move_slab_spec : {M : Type 1} → statement M
+move_slab_spec =
     tie.close
     (tie.spec
-    slice-aggregate-slab-into
-    slab-into-requires
-    mul-list
-    array-write-list
-    add-move-list
-    sub-move-list
-    part-move-list-start
-    part-move-list-end
-    move-list-requires
-    enum-known-answer
-    release-block-requires
-    accept-append-requires
-    enum-known-answer-2
-    same_length
-    same-length-2
-    returns
-    same-length-3
-    returns-2)
+    slice_bounds-slab_into-end
+    slab_into-requires
+    offset_bounds-list-held
+    bounds-list-held
+    overflow_add-held
+    slice_bounds-move_list-count
+    slice_bounds-move_list-start
+    slice_bounds-move_list-end
+    move_list-answer-requires
+    enum_known-answer
+    release_block-requires
+    accept_append-requires
+    enum_known-answer-in-Refused-1
+    shape_of-body-in-At
+    shape_of-heads
+    returns-in-At
+    shape_of-body-in-Refused
+    returns-in-Refused)

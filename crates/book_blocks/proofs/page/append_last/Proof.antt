@@ -12,30 +12,30 @@ use Rattle.book_blocks.proofs.LawsWrites.{grown_written}
 use Rattle.book_blocks.proofs.page.append_last.Statement.{statement}
 use Rattle.book_blocks.proofs.page.append_last.Tie as tie
 
-get-u16-requires : tie.Need-get-u16-requires
-get-u16-requires c κs = search rules
+get_u16-count-requires : tie.Need-get_u16-count-requires
+get_u16-count-requires c κs = search rules
 
-add-put-u16 : tie.Need-overflow-add-put-u16
-add-put-u16 c = let s = c.before.before.before.before in
-    omega (arith, s.requires.grows.few, count_read s.args.page.now, c.before.get-u16.ensures)
+overflow_add-count : tie.Need-overflow_add-count
+overflow_add-count c = let s = c.before.before.before.before in
+    omega (arith, s.requires.grows.few, count_read s.args.page.now, c.before.get_u16-count.ensures)
 
-put-u16-requires : tie.Need-put-u16-requires
-put-u16-requires c κs = search rules
+put_u16-requires : tie.Need-put_u16-requires
+put_u16-requires c κs = search rules
 
-add-put-form : tie.Need-overflow-add-put-form
-add-put-form c = search rules
+overflow_add-taken : tie.Need-overflow_add-taken
+overflow_add-taken c = search rules
 
-put-form-requires : tie.Need-put-form-requires
-put-form-requires c κs = search rules
+put_form-requires : tie.Need-put_form-requires
+put_form-requires c κs = search rules
 
-total-with-requires : tie.Need-total-with-requires
-total-with-requires c κs = search rules
+total_with-requires : tie.Need-total_with-requires
+total_with-requires c κs = search rules
 
-put-u32-requires : tie.Need-put-u32-requires
-put-u32-requires c κs = search rules
+put_u32-requires : tie.Need-put_u32-requires
+put_u32-requires c κs = search rules
 
-same_length : tie.Need-same-length
-same_length c = search rules
+shape_of-page : tie.Need-shape_of-page
+shape_of-page c = search rules
 
 returns : tie.Need-returns
 returns c =
@@ -45,24 +45,24 @@ returns c =
     let got = counted.before.before in
     let s = got.before.before.before in
     let a = s.args in
-    c.before.before.put-u32.ensures
+    c.before.before.put_u32.ensures
     ∙ ap₂ (λ (b : List ℕ) (t : ℕ). overwrite b 20 (bytes_of 4 t))
-    (formed.put-form.ensures.1 ∙ ap (λ (b : List ℕ). overwrite b (24 + a.taken) (shortest a.difference)) counted.put-u16.ensures)
-    total.total-with.ensures
-    ∙ grown_written a.page.now got.get-u16.result a.taken a.difference a.creates (omega (arith, s.requires.long))
+    (formed.put_form.ensures.1 ∙ ap (λ (b : List ℕ). overwrite b (24 + a.taken) (shortest a.difference)) counted.put_u16.ensures)
+    total.total_with.ensures
+    ∙ grown_written a.page.now got.get_u16-count.result a.taken a.difference a.creates (omega (arith, s.requires.long))
     s.requires.grows.version_is
-    got.get-u16.ensures
+    got.get_u16-count.ensures
 
-pub append-last-spec : {M : Type 1} → statement M
-append-last-spec =
+pub append_last_spec : {M : Type 1} → statement M
+append_last_spec =
     tie.close
     (tie.spec
-    get-u16-requires
-    add-put-u16
-    put-u16-requires
-    add-put-form
-    put-form-requires
-    total-with-requires
-    put-u32-requires
-    same_length
+    get_u16-count-requires
+    overflow_add-count
+    put_u16-requires
+    overflow_add-taken
+    put_form-requires
+    total_with-requires
+    put_u32-requires
+    shape_of-page
     returns)

@@ -13,20 +13,20 @@ use Rattle.book_blocks.proofs.LawsWrites.{lent_is, length_lent_block, block_back
 use Rattle.book_blocks.proofs.page.grow_page.Statement.{statement}
 use Rattle.book_blocks.proofs.page.grow_page.Tie as tie
 
-add-end : tie.Need-overflow-add-end
-add-end c = search rules
+overflow_add-end : tie.Need-overflow_add-end
+overflow_add-end c = search rules
 
-sub-append-last : tie.Need-overflow-sub-append-last
-sub-append-last c = search rules
+slice_bounds-append_last-count : tie.Need-slice_bounds-append_last-count
+slice_bounds-append_last-count c = search rules
 
-part-append-last-start : tie.Need-slice-bounds-append-last-start
-part-append-last-start c = search rules
+slice_bounds-append_last-start : tie.Need-slice_bounds-append_last-start
+slice_bounds-append_last-start c = search rules
 
-part-append-last-end : tie.Need-slice-bounds-append-last-end
-part-append-last-end c = search rules
+slice_bounds-append_last-end : tie.Need-slice_bounds-append_last-end
+slice_bounds-append_last-end c = search rules
 
-append-last-requires : tie.Need-append-last-requires
-append-last-requires c κs =
+append_last-requires : tie.Need-append_last-requires
+append_last-requires c κs =
     let s = c.before.before in
     let a = s.args in
     let body = a.body.now in
@@ -35,8 +35,8 @@ append-last-requires c κs =
       grows = rw (lent_is body a.last 4096) s.requires.grows;
     }
 
-same_length : tie.Need-same-length
-same_length c = search rules
+shape_of-body : tie.Need-shape_of-body
+shape_of-body c = search rules
 
 returns : tie.Need-returns
 returns c =
@@ -48,18 +48,18 @@ returns c =
     (length_page_with page (record { at = stream_off page + a.taken; difference = a.difference }) a.creates
     (length_part body a.last 4096 s.requires.inside)
     (omega (arith, stream_off_extent page s.requires.grows.version_is, s.requires.grows.fits)))
-    (c.before.before.append-last.ensures
+    (c.before.before.append_last.ensures
     ∙ ap (λ (b : List ℕ). page_with b (record { at = stream_off b + a.taken; difference = a.difference }) a.creates)
     (lent_is body a.last 4096))
 
-pub grow-page-spec : {M : Type 1} → statement M
-grow-page-spec =
+pub grow_page_spec : {M : Type 1} → statement M
+grow_page_spec =
     tie.close
     (tie.spec
-    add-end
-    sub-append-last
-    part-append-last-start
-    part-append-last-end
-    append-last-requires
-    same_length
+    overflow_add-end
+    slice_bounds-append_last-count
+    slice_bounds-append_last-start
+    slice_bounds-append_last-end
+    append_last-requires
+    shape_of-body
     returns)

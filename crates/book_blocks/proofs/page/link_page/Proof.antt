@@ -10,23 +10,23 @@ use Rattle.book_blocks.proofs.LawsWrites.{lent_is, block_back, length_page_befor
 use Rattle.book_blocks.proofs.page.link_page.Statement.{statement}
 use Rattle.book_blocks.proofs.page.link_page.Tie as tie
 
-add-end : tie.Need-overflow-add-end
-add-end c = search rules
+overflow_add-end : tie.Need-overflow_add-end
+overflow_add-end c = search rules
 
-sub-make-before : tie.Need-overflow-sub-make-before
-sub-make-before c = search rules
+slice_bounds-make_before-count : tie.Need-slice_bounds-make_before-count
+slice_bounds-make_before-count c = search rules
 
-part-make-before-start : tie.Need-slice-bounds-make-before-start
-part-make-before-start c = search rules
+slice_bounds-make_before-start : tie.Need-slice_bounds-make_before-start
+slice_bounds-make_before-start c = search rules
 
-part-make-before-end : tie.Need-slice-bounds-make-before-end
-part-make-before-end c = search rules
+slice_bounds-make_before-end : tie.Need-slice_bounds-make_before-end
+slice_bounds-make_before-end c = search rules
 
-make-before-requires : tie.Need-make-before-requires
-make-before-requires c κs = search rules
+make_before-requires : tie.Need-make_before-requires
+make_before-requires c κs = search rules
 
-same_length : tie.Need-same-length
-same_length c = search rules
+shape_of-body : tie.Need-shape_of-body
+shape_of-body c = search rules
 
 returns : tie.Need-returns
 returns c =
@@ -34,16 +34,16 @@ returns c =
     let a = s.args in
     let body = a.body.now in
     block_back body a.last 4096 _ _ (length_page_before (part body a.last 4096) a.next (length_part body a.last 4096 s.requires))
-    (c.before.before.make-before.ensures ∙ ap (λ (b : List ℕ). page_before b a.next) (lent_is body a.last 4096))
+    (c.before.before.make_before.ensures ∙ ap (λ (b : List ℕ). page_before b a.next) (lent_is body a.last 4096))
 
-pub link-page-spec : {M : Type 1} → statement M
-link-page-spec =
+pub link_page_spec : {M : Type 1} → statement M
+link_page_spec =
     tie.close
     (tie.spec
-    add-end
-    sub-make-before
-    part-make-before-start
-    part-make-before-end
-    make-before-requires
-    same_length
+    overflow_add-end
+    slice_bounds-make_before-count
+    slice_bounds-make_before-start
+    slice_bounds-make_before-end
+    make_before-requires
+    shape_of-body
     returns)

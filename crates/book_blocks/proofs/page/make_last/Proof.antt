@@ -4,20 +4,20 @@ use Rattle.book_blocks.proofs.LawsWrites.{last_written}
 use Rattle.book_blocks.proofs.page.make_last.Statement.{statement}
 use Rattle.book_blocks.proofs.page.make_last.Tie as tie
 
-sh-page-pack-extent-last-fks-requires : tie.Need-sh-page-pack-extent-last-fks-requires
-sh-page-pack-extent-last-fks-requires c κs = search rules
+sh_page_pack_extent_last_fks-requires : tie.Need-sh_page_pack_extent_last_fks-requires
+sh_page_pack_extent_last_fks-requires c κs = search rules
 
-link-to-requires : tie.Need-link-to-requires
-link-to-requires c κs = search rules
+link_to-requires : tie.Need-link_to-requires
+link_to-requires c κs = search rules
 
-put-u40-requires : tie.Need-put-u40-requires
-put-u40-requires c κs = search rules
+put_u40-requires : tie.Need-put_u40-requires
+put_u40-requires c κs = search rules
 
-put-u32-requires : tie.Need-put-u32-requires
-put-u32-requires c κs = search rules
+put_u32-requires : tie.Need-put_u32-requires
+put_u32-requires c κs = search rules
 
-same_length : tie.Need-same-length
-same_length c = search rules
+shape_of-page : tie.Need-shape_of-page
+shape_of-page c = search rules
 
 returns : tie.Need-returns
 returns c =
@@ -26,16 +26,16 @@ returns c =
     let s = packed.before.before.before.before in
     let a = s.args in
     last_written a.page.now a.fks.now _ _ _ a.first a.base a.extents a.creates _ s.requires.long s.requires.last
-    packed.sh-page-pack-extent-last-fks.ensures.1 linked.before.link-to.ensures linked.put-u40.ensures
-    c.before.before.put-u32.ensures
+    packed.sh_page_pack_extent_last_fks.ensures.1 linked.before.link_to.ensures linked.put_u40.ensures
+    c.before.before.put_u32.ensures
 
-pub make-last-spec : {M : Type 1} → statement M
-make-last-spec =
+pub make_last_spec : {M : Type 1} → statement M
+make_last_spec =
     tie.close
     (tie.spec
-    sh-page-pack-extent-last-fks-requires
-    link-to-requires
-    put-u40-requires
-    put-u32-requires
-    same_length
+    sh_page_pack_extent_last_fks-requires
+    link_to-requires
+    put_u40-requires
+    put_u32-requires
+    shape_of-page
     returns)

@@ -5,40 +5,40 @@ use Rattle.book_blocks.proofs.LawsWrites.{length_lent_block, block_back, length_
 use Rattle.book_blocks.proofs.page.put_page_to.Statement.{statement}
 use Rattle.book_blocks.proofs.page.put_page_to.Tie as tie
 
-add-end : tie.Need-overflow-add-end
-add-end c = search rules
+overflow_add-end : tie.Need-overflow_add-end
+overflow_add-end c = search rules
 
-sub-sh-page-pack-fks : tie.Need-overflow-sub-sh-page-pack-fks
-sub-sh-page-pack-fks c = search rules
+slice_bounds-sh_page_pack_fks-count : tie.Need-slice_bounds-sh_page_pack_fks-count
+slice_bounds-sh_page_pack_fks-count c = search rules
 
-part-sh-page-pack-fks-start : tie.Need-slice-bounds-sh-page-pack-fks-start
-part-sh-page-pack-fks-start c = search rules
+slice_bounds-sh_page_pack_fks-start : tie.Need-slice_bounds-sh_page_pack_fks-start
+slice_bounds-sh_page_pack_fks-start c = search rules
 
-part-sh-page-pack-fks-end : tie.Need-slice-bounds-sh-page-pack-fks-end
-part-sh-page-pack-fks-end c = search rules
+slice_bounds-sh_page_pack_fks-end : tie.Need-slice_bounds-sh_page_pack_fks-end
+slice_bounds-sh_page_pack_fks-end c = search rules
 
-sh-page-pack-fks-requires : tie.Need-sh-page-pack-fks-requires
-sh-page-pack-fks-requires c κs = search rules
+sh_page_pack_fks-requires : tie.Need-sh_page_pack_fks-requires
+sh_page_pack_fks-requires c κs = search rules
 
-same_length : tie.Need-same-length
-same_length c = search rules
+shape_of-body : tie.Need-shape_of-body
+shape_of-body c = search rules
 
 returns : tie.Need-returns
 returns c =
     let s = c.before.before.before.before.before.before in
     let a = s.args in
     block_back a.body.now a.off 4096 _ _ (length_page_to a.next a.fks.now s.requires.linked.numbers.fits)
-    (c.before.before.sh-page-pack-fks.ensures.1
+    (c.before.before.sh_page_pack_fks.ensures.1
     ∙ page_written _ a.fks.now a.next (length_lent_block a.body.now a.off 4096 s.requires.inside) s.requires.linked)
 
-pub put-page-to-spec : {M : Type 1} → statement M
-put-page-to-spec =
+pub put_page_to_spec : {M : Type 1} → statement M
+put_page_to_spec =
     tie.close
     (tie.spec
-    add-end
-    sub-sh-page-pack-fks
-    part-sh-page-pack-fks-start
-    part-sh-page-pack-fks-end
-    sh-page-pack-fks-requires
-    same_length
+    overflow_add-end
+    slice_bounds-sh_page_pack_fks-count
+    slice_bounds-sh_page_pack_fks-start
+    slice_bounds-sh_page_pack_fks-end
+    sh_page_pack_fks-requires
+    shape_of-body
     returns)

@@ -9,30 +9,30 @@ use Rattle.book_blocks.specs.Blocks.{slab_with}
 use Rattle.book_blocks.proofs.slab.grow_block.Statement.{statement}
 use Rattle.book_blocks.proofs.slab.grow_block.Tie as tie
 
-add-put-u16 : tie.Need-overflow-add-put-u16
-add-put-u16 c = search rules
+overflow_add-used : tie.Need-overflow_add-used
+overflow_add-used c = search rules
 
-put-u16-requires : tie.Need-put-u16-requires
-put-u16-requires c κs = search rules
+put_u16-requires : tie.Need-put_u16-requires
+put_u16-requires c κs = search rules
 
-add-put-form : tie.Need-overflow-add-put-form
-add-put-form c = search rules
+overflow_add-taken : tie.Need-overflow_add-taken
+overflow_add-taken c = search rules
 
-put-form-requires : tie.Need-put-form-requires
-put-form-requires c κs = search rules
+put_form-requires : tie.Need-put_form-requires
+put_form-requires c κs = search rules
 
-same_length : tie.Need-same-length
-same_length c = search rules
+shape_of-block : tie.Need-shape_of-block
+shape_of-block c = search rules
 
 returns : tie.Need-returns
 unfolding slab_with
 returns c =
     let s = c.before.before.before.before.before.before.before.before.before in
-    let put = c.before.before.before.before.before.before.put-u16 in
-    c.before.before.put-form.ensures.1
+    let put = c.before.before.before.before.before.before.put_u16 in
+    c.before.before.put_form.ensures.1
     ∙ ap (λ (b : List ℕ). overwrite b (2 + s.args.taken) (shortest s.args.difference)) put.ensures
 
-pub grow-block-spec : {M : Type 1} → statement M
-grow-block-spec =
+pub grow_block_spec : {M : Type 1} → statement M
+grow_block_spec =
     tie.close
-    (tie.spec add-put-u16 put-u16-requires add-put-form put-form-requires same_length returns)
+    (tie.spec overflow_add-used put_u16-requires overflow_add-taken put_form-requires shape_of-block returns)

@@ -11,23 +11,23 @@ use Rattle.book_blocks.proofs.LawsWrites.{lent_is, block_back, length_slab_with}
 use Rattle.book_blocks.proofs.slab.grow_slab.Statement.{statement}
 use Rattle.book_blocks.proofs.slab.grow_slab.Tie as tie
 
-add-end : tie.Need-overflow-add-end
-add-end c = search rules
+overflow_add-end : tie.Need-overflow_add-end
+overflow_add-end c = search rules
 
-sub-grow-block : tie.Need-overflow-sub-grow-block
-sub-grow-block c = search rules
+slice_bounds-grow_block-count : tie.Need-slice_bounds-grow_block-count
+slice_bounds-grow_block-count c = search rules
 
-part-grow-block-start : tie.Need-slice-bounds-grow-block-start
-part-grow-block-start c = search rules
+slice_bounds-grow_block-start : tie.Need-slice_bounds-grow_block-start
+slice_bounds-grow_block-start c = search rules
 
-part-grow-block-end : tie.Need-slice-bounds-grow-block-end
-part-grow-block-end c = search rules
+slice_bounds-grow_block-end : tie.Need-slice_bounds-grow_block-end
+slice_bounds-grow_block-end c = search rules
 
-grow-block-requires : tie.Need-grow-block-requires
-grow-block-requires c κs = search rules
+grow_block-requires : tie.Need-grow_block-requires
+grow_block-requires c κs = search rules
 
-same_length : tie.Need-same-length
-same_length c = search rules
+shape_of-body : tie.Need-shape_of-body
+shape_of-body c = search rules
 
 returns : tie.Need-returns
 returns c =
@@ -37,17 +37,17 @@ returns c =
     let long = length_part body a.off a.size s.requires.inside in
     block_back body a.off a.size _ _
     (length_slab_with (part body a.off a.size) a.used a.taken a.difference (omega (arith, long, s.requires.fits)) ∙ long)
-    (c.before.before.grow-block.ensures
+    (c.before.before.grow_block.ensures
     ∙ ap (λ (b : List ℕ). slab_with b a.used a.taken a.difference) (lent_is body a.off a.size))
 
-pub grow-slab-spec : {M : Type 1} → statement M
-grow-slab-spec =
+pub grow_slab_spec : {M : Type 1} → statement M
+grow_slab_spec =
     tie.close
     (tie.spec
-    add-end
-    sub-grow-block
-    part-grow-block-start
-    part-grow-block-end
-    grow-block-requires
-    same_length
+    overflow_add-end
+    slice_bounds-grow_block-count
+    slice_bounds-grow_block-start
+    slice_bounds-grow_block-end
+    grow_block-requires
+    shape_of-body
     returns)

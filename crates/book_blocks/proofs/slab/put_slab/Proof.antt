@@ -7,26 +7,26 @@ use Rattle.book_blocks.proofs.slab.put_slab.Statement.{statement}
 use Rattle.scripthash_stream.proofs.LawsStream.{rising_below}
 use Rattle.book_blocks.proofs.slab.put_slab.Tie as tie
 
-add-end : tie.Need-overflow-add-end
-add-end c = search rules
+overflow_add-end : tie.Need-overflow_add-end
+overflow_add-end c = search rules
 
-sub-put-payload : tie.Need-overflow-sub-put-payload
-sub-put-payload c = search rules
+slice_bounds-put_payload-count : tie.Need-slice_bounds-put_payload-count
+slice_bounds-put_payload-count c = search rules
 
-part-put-payload-start : tie.Need-slice-bounds-put-payload-start
-part-put-payload-start c = search rules
+slice_bounds-put_payload-start : tie.Need-slice_bounds-put_payload-start
+slice_bounds-put_payload-start c = search rules
 
-part-put-payload-end : tie.Need-slice-bounds-put-payload-end
-part-put-payload-end c = search rules
+slice_bounds-put_payload-end : tie.Need-slice_bounds-put_payload-end
+slice_bounds-put_payload-end c = search rules
 
-put-payload-requires : tie.Need-put-payload-requires
-put-payload-requires c κs =
+put_payload-requires : tie.Need-put_payload-requires
+put_payload-requires c κs =
     let s = c.before.before.before in
     let long = length_lent_block s.args.body.now s.args.off s.args.size s.requires.inside in
     (omega (arith, long, s.requires.fits), s.requires.few, rising_below (2 ^ 62) (2 ^ 63) 0 s.args.fks.now (omega arith) s.requires.rises)
 
-same_length : tie.Need-same-length
-same_length c = search rules
+shape_of-body : tie.Need-shape_of-body
+shape_of-body c = search rules
 
 returns : tie.Need-returns
 returns c =
@@ -34,14 +34,14 @@ returns c =
     start_back s.args.body.now s.args.off s.args.size _ _ s.requires.inside
     (omega (arith, length_payload s.args.fks.now, s.requires.fits)) c.before.before.put_payload.ensures
 
-pub put-slab-spec : {M : Type 1} → statement M
-put-slab-spec =
+pub put_slab_spec : {M : Type 1} → statement M
+put_slab_spec =
     tie.close
     (tie.spec
-    add-end
-    sub-put-payload
-    part-put-payload-start
-    part-put-payload-end
-    put-payload-requires
-    same_length
+    overflow_add-end
+    slice_bounds-put_payload-count
+    slice_bounds-put_payload-start
+    slice_bounds-put_payload-end
+    put_payload-requires
+    shape_of-body
     returns)

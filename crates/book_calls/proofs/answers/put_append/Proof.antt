@@ -6,43 +6,43 @@ use borrow.Author.Rules.{rules}
 use Rattle.book_calls.proofs.answers.put_append.Statement.{statement}
 use Rattle.book_calls.proofs.answers.put_append.Tie as tie
 
-enum-known-answer : tie.Need-enum-known-answer
-enum-known-answer c = search rules
+enum_known-answer : tie.Need-enum_known-answer
+enum_known-answer c = search rules
 
-put-appended-requires : tie.Need-put-appended-requires
-put-appended-requires c κs = search rules
+put_appended-requires : tie.Need-put_appended-requires
+put_appended-requires c κs = search rules
 
-enum-known-answer-2 : tie.Need-enum-known-answer-2
-enum-known-answer-2 c = search rules
+enum_known-answer-in-Refused-1 : tie.Need-enum_known-answer-in-Refused-1
+enum_known-answer-in-Refused-1 c = search rules
 
-put-refusal-requires : tie.Need-put-refusal-requires
-put-refusal-requires c κs = search rules
+put_refusal-requires : tie.Need-put_refusal-requires
+put_refusal-requires c κs = search rules
 
-same_length : tie.Need-same-length
-same_length c = search rules
+shape_of-out-in-Appended : tie.Need-shape_of-out-in-Appended
+shape_of-out-in-Appended c = search rules
 
-returns : tie.Need-returns
-returns c =
-    let told = c.before.before.before.before.before.answer.given.1 in
-    re_said (ap append_told told) c.before.before.put-appended.ensures
+returns-in-Appended : tie.Need-returns-in-Appended
+returns-in-Appended c =
+    let told = c.before.before.before.before.before.answer-1.given.1 in
+    re_said (ap append_told told) c.before.before.put_appended.ensures
 
-same-length-2 : tie.Need-same-length-2
-same-length-2 c = search rules
+shape_of-out-in-Refused : tie.Need-shape_of-out-in-Refused
+shape_of-out-in-Refused c = search rules
 
-returns-2 : tie.Need-returns-2
-returns-2 c =
-    let told = c.before.before.before.before.before.answer2.given.1 in
-    re_said (ap append_told told) c.before.before.put-refusal.ensures
+returns-in-Refused : tie.Need-returns-in-Refused
+returns-in-Refused c =
+    let told = c.before.before.before.before.before.answer-in-Refused-1.given.1 in
+    re_said (ap append_told told) c.before.before.put_refusal.ensures
 
-pub put-append-spec : {M : Type 1} → statement M
-put-append-spec =
+pub put_append_spec : {M : Type 1} → statement M
+put_append_spec =
     tie.close
     (tie.spec
-    enum-known-answer
-    put-appended-requires
-    enum-known-answer-2
-    put-refusal-requires
-    same_length
-    returns
-    same-length-2
-    returns-2)
+    enum_known-answer
+    put_appended-requires
+    enum_known-answer-in-Refused-1
+    put_refusal-requires
+    shape_of-out-in-Appended
+    returns-in-Appended
+    shape_of-out-in-Refused
+    returns-in-Refused)

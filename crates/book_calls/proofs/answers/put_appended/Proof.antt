@@ -9,23 +9,23 @@ use borrow.Author.Rules.{rules}
 use Rattle.book_calls.proofs.answers.put_appended.Statement.{statement}
 use Rattle.book_calls.proofs.answers.put_appended.Tie as tie
 
-put-three-requires : tie.Need-put-three-requires
-put-three-requires c κs = search rules
+put_three-requires : tie.Need-put_three-requires
+put_three-requires c κs = search rules
 
-sub-put-place : tie.Need-overflow-sub-put-place
-sub-put-place c = search rules
+slice_bounds-put_place-count : tie.Need-slice_bounds-put_place-count
+slice_bounds-put_place-count c = search rules
 
-part-put-place-start : tie.Need-slice-bounds-put-place-start
-part-put-place-start c = search rules
+slice_bounds-put_place-start : tie.Need-slice_bounds-put_place-start
+slice_bounds-put_place-start c = search rules
 
-part-put-place-end : tie.Need-slice-bounds-put-place-end
-part-put-place-end c = search rules
+slice_bounds-put_place-end : tie.Need-slice_bounds-put_place-end
+slice_bounds-put_place-end c = search rules
 
-put-place-requires : tie.Need-put-place-requires
-put-place-requires c κs = search rules
+put_place-requires : tie.Need-put_place-requires
+put_place-requires c κs = search rules
 
-same_length : tie.Need-same-length
-same_length c = search rules
+shape_of-out : tie.Need-shape_of-out
+shape_of-out c = search rules
 
 returns : tie.Need-returns
 returns c =
@@ -33,17 +33,17 @@ returns c =
     let start = three.before.before.before in
     let args = start.args in
     let mid = three.put_three.new.0 in
-    re_written (ap (λ (l : List ℕ). put_mid 3 (length mid - 3) mid l) c.before.before.put-place.ensures)
+    re_written (ap (λ (l : List ℕ). put_mid 3 (length mid - 3) mid l) c.before.before.put_place.ensures)
     (append_put args.out.now mid args.to.rewritten args.to.place start.requires three.put_three.ensures)
 
-pub put-appended-spec : {M : Type 1} → statement M
-put-appended-spec =
+pub put_appended_spec : {M : Type 1} → statement M
+put_appended_spec =
     tie.close
     (tie.spec
-    put-three-requires
-    sub-put-place
-    part-put-place-start
-    part-put-place-end
-    put-place-requires
-    same_length
+    put_three-requires
+    slice_bounds-put_place-count
+    slice_bounds-put_place-start
+    slice_bounds-put_place-end
+    put_place-requires
+    shape_of-out
     returns)

@@ -6,43 +6,43 @@ use borrow.Author.Rules.{rules}
 use Rattle.book_calls.proofs.answers.put_drop.Statement.{statement}
 use Rattle.book_calls.proofs.answers.put_drop.Tie as tie
 
-enum-known-answer : tie.Need-enum-known-answer
-enum-known-answer c = search rules
+enum_known-answer : tie.Need-enum_known-answer
+enum_known-answer c = search rules
 
-put-three-requires : tie.Need-put-three-requires
-put-three-requires c κs = search rules
+put_three-requires : tie.Need-put_three-requires
+put_three-requires c κs = search rules
 
-enum-known-answer-2 : tie.Need-enum-known-answer-2
-enum-known-answer-2 c = search rules
+enum_known-answer-in-Refused-1 : tie.Need-enum_known-answer-in-Refused-1
+enum_known-answer-in-Refused-1 c = search rules
 
-put-refusal-requires : tie.Need-put-refusal-requires
-put-refusal-requires c κs = search rules
+put_refusal-requires : tie.Need-put_refusal-requires
+put_refusal-requires c κs = search rules
 
-same_length : tie.Need-same-length
-same_length c = search rules
+shape_of-out-in-Dropped : tie.Need-shape_of-out-in-Dropped
+shape_of-out-in-Dropped c = search rules
 
-returns : tie.Need-returns
-returns c =
-    let told = c.before.before.before.before.before.answer.given.1 in
+returns-in-Dropped : tie.Need-returns-in-Dropped
+returns-in-Dropped c =
+    let told = c.before.before.before.before.before.answer-1.given.1 in
     re_said (ap drop_told told) (drop_put _ _ _ c.before.before.put_three.ensures)
 
-same-length-2 : tie.Need-same-length-2
-same-length-2 c = search rules
+shape_of-out-in-Refused : tie.Need-shape_of-out-in-Refused
+shape_of-out-in-Refused c = search rules
 
-returns-2 : tie.Need-returns-2
-returns-2 c =
-    let told = c.before.before.before.before.before.answer2.given.1 in
-    re_said (ap drop_told told) c.before.before.put-refusal.ensures
+returns-in-Refused : tie.Need-returns-in-Refused
+returns-in-Refused c =
+    let told = c.before.before.before.before.before.answer-in-Refused-1.given.1 in
+    re_said (ap drop_told told) c.before.before.put_refusal.ensures
 
-pub put-drop-spec : {M : Type 1} → statement M
-put-drop-spec =
+pub put_drop_spec : {M : Type 1} → statement M
+put_drop_spec =
     tie.close
     (tie.spec
-    enum-known-answer
-    put-three-requires
-    enum-known-answer-2
-    put-refusal-requires
-    same_length
-    returns
-    same-length-2
-    returns-2)
+    enum_known-answer
+    put_three-requires
+    enum_known-answer-in-Refused-1
+    put_refusal-requires
+    shape_of-out-in-Dropped
+    returns-in-Dropped
+    shape_of-out-in-Refused
+    returns-in-Refused)

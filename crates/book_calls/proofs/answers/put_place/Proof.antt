@@ -14,87 +14,87 @@ as_told : (b : List ℕ) {out : List ℕ} {place other : ShHeadValue} → place 
     → out ≡ overwrite b 0 (spell_place place)
 as_told b e words = words ∙ ap (λ (p : ShHeadValue). overwrite b 0 (spell_place p)) (sym e)
 
-enum_told : tie.Need-enum-told
-enum_told c = search rules
+enum_told-1 : tie.Need-enum_told-1
+enum_told-1 c = search rules
 
-put-four-requires : tie.Need-put-four-requires
-put-four-requires c κs = search rules
+put_four-requires : tie.Need-put_four-requires
+put_four-requires c κs = search rules
 
-enum-known-place : tie.Need-enum-known-place
-enum-known-place c = search rules
+enum_known-place : tie.Need-enum_known-place
+enum_known-place c = search rules
 
-cast-put-four : tie.Need-overflow-cast-put-four
-cast-put-four c = search rules
+overflow_cast-used : tie.Need-overflow_cast-used
+overflow_cast-used c = search rules
 
-put-four-requires-2 : tie.Need-put-four-requires-2
-put-four-requires-2 c κs = search rules
+put_four-requires-in-Inline : tie.Need-put_four-requires-in-Inline
+put_four-requires-in-Inline c κs = search rules
 
-enum-known-place-2 : tie.Need-enum-known-place-2
-enum-known-place-2 c = search rules
+enum_known-place-in-Slab-1 : tie.Need-enum_known-place-in-Slab-1
+enum_known-place-in-Slab-1 c = search rules
 
-cast-put-four-2 : tie.Need-overflow-cast-put-four-2
-cast-put-four-2 c = search rules
+overflow_cast-class : tie.Need-overflow_cast-class
+overflow_cast-class c = search rules
 
-cast-put-four-3 : tie.Need-overflow-cast-put-four-3
-cast-put-four-3 c = search rules
+overflow_cast-used-in-Slab : tie.Need-overflow_cast-used-in-Slab
+overflow_cast-used-in-Slab c = search rules
 
-put-four-requires-3 : tie.Need-put-four-requires-3
-put-four-requires-3 c κs = search rules
+put_four-requires-in-Slab : tie.Need-put_four-requires-in-Slab
+put_four-requires-in-Slab c κs = search rules
 
-enum-known-place-3 : tie.Need-enum-known-place-3
-enum-known-place-3 c = search rules
+enum_known-place-in-Extent-1 : tie.Need-enum_known-place-in-Extent-1
+enum_known-place-in-Extent-1 c = search rules
 
-put-four-requires-4 : tie.Need-put-four-requires-4
-put-four-requires-4 c κs = search rules
+put_four-requires-in-Extent : tie.Need-put_four-requires-in-Extent
+put_four-requires-in-Extent c κs = search rules
 
-same_length : tie.Need-same-length
-same_length c = search rules
+shape_of-out-in-Empty : tie.Need-shape_of-out-in-Empty
+shape_of-out-in-Empty c = search rules
 
-returns : tie.Need-returns
+returns-in-Empty : tie.Need-returns-in-Empty
 unfolding spell_place
-returns c = as_told _ c.before.before.before.before.enum_told.given.1 c.before.before.put_four.ensures
+returns-in-Empty c = as_told _ c.before.before.before.before.enum_told-1.given.1 c.before.before.put_four.ensures
 
-same-length-2 : tie.Need-same-length-2
-same-length-2 c = search rules
+shape_of-out-in-Inline : tie.Need-shape_of-out-in-Inline
+shape_of-out-in-Inline c = search rules
 
-returns-2 : tie.Need-returns-2
+returns-in-Inline : tie.Need-returns-in-Inline
 unfolding spell_place
-returns-2 c = as_told _ c.before.before.before.before.before.place.given.1 c.before.before.put-four2.ensures
+returns-in-Inline c = as_told _ c.before.before.before.before.before.place-1.given.1 c.before.before.put_four-in-Inline.ensures
 
-same-length-3 : tie.Need-same-length-3
-same-length-3 c = search rules
+shape_of-out-in-Slab : tie.Need-shape_of-out-in-Slab
+shape_of-out-in-Slab c = search rules
 
-returns-3 : tie.Need-returns-3
+returns-in-Slab : tie.Need-returns-in-Slab
 unfolding spell_place
-returns-3 c = as_told _ c.before.before.before.before.before.place2.given.1 c.before.before.put-four3.ensures
+returns-in-Slab c = as_told _ c.before.before.before.before.before.place-in-Slab-1.given.1 c.before.before.put_four-in-Slab.ensures
 
-same-length-4 : tie.Need-same-length-4
-same-length-4 c = search rules
+shape_of-out-in-Extent : tie.Need-shape_of-out-in-Extent
+shape_of-out-in-Extent c = search rules
 
-returns-4 : tie.Need-returns-4
+returns-in-Extent : tie.Need-returns-in-Extent
 unfolding spell_place
-returns-4 c = as_told _ c.before.before.before.before.before.place3.given.1 c.before.before.put-four4.ensures
+returns-in-Extent c = as_told _ c.before.before.before.before.before.place-in-Extent-1.given.1 c.before.before.put_four-in-Extent.ensures
 
-pub put-place-spec : {M : Type 1} → statement M
-put-place-spec =
+pub put_place_spec : {M : Type 1} → statement M
+put_place_spec =
     tie.close
     (tie.spec
-    enum_told
-    put-four-requires
-    enum-known-place
-    cast-put-four
-    put-four-requires-2
-    enum-known-place-2
-    cast-put-four-2
-    cast-put-four-3
-    put-four-requires-3
-    enum-known-place-3
-    put-four-requires-4
-    same_length
-    returns
-    same-length-2
-    returns-2
-    same-length-3
-    returns-3
-    same-length-4
-    returns-4)
+    enum_told-1
+    put_four-requires
+    enum_known-place
+    overflow_cast-used
+    put_four-requires-in-Inline
+    enum_known-place-in-Slab-1
+    overflow_cast-class
+    overflow_cast-used-in-Slab
+    put_four-requires-in-Slab
+    enum_known-place-in-Extent-1
+    put_four-requires-in-Extent
+    shape_of-out-in-Empty
+    returns-in-Empty
+    shape_of-out-in-Inline
+    returns-in-Inline
+    shape_of-out-in-Slab
+    returns-in-Slab
+    shape_of-out-in-Extent
+    returns-in-Extent)

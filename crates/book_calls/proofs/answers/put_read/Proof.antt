@@ -17,48 +17,48 @@ as_told : (b : List ℕ) {out : List ℕ} {len : ℕ} {answer other : BookRead} 
     → (out ≡ overwrite b 0 (read_words answer)) × (len ≡ read_len answer)
 as_told b e words count = (words ∙ ap (λ (a : BookRead). overwrite b 0 (read_words a)) (sym e), count ∙ sym (ap read_len e))
 
-enum-known-answer : tie.Need-enum-known-answer
-enum-known-answer c = search rules
+enum_known-answer : tie.Need-enum_known-answer
+enum_known-answer c = search rules
 
-put-five-requires : tie.Need-put-five-requires
-put-five-requires c κs = search rules
+put_five-requires : tie.Need-put_five-requires
+put_five-requires c κs = search rules
 
-add-result : tie.Need-overflow-add-result
-add-result c =
+overflow_add-result : tie.Need-overflow_add-result
+overflow_add-result c =
     let told = c.before.before.before.before.before in
-    omega (arith, ap read_len told.answer.given.1, told.before.before.before.requires.1)
+    omega (arith, ap read_len told.answer-1.given.1, told.before.before.before.requires.1)
 
-enum-known-answer-2 : tie.Need-enum-known-answer-2
-enum-known-answer-2 c = search rules
+enum_known-answer-in-Refused-1 : tie.Need-enum_known-answer-in-Refused-1
+enum_known-answer-in-Refused-1 c = search rules
 
-put-refusal-requires : tie.Need-put-refusal-requires
-put-refusal-requires c κs = search rules
+put_refusal-requires : tie.Need-put_refusal-requires
+put_refusal-requires c κs = search rules
 
-same_length : tie.Need-same-length
-same_length c = search rules
+shape_of-out-in-Listed : tie.Need-shape_of-out-in-Listed
+shape_of-out-in-Listed c = search rules
 
-returns : tie.Need-returns
-returns c = as_told _ c.before.before.before.before.before.answer.given.1 c.before.before.put_five.ensures refl
+returns-in-Listed : tie.Need-returns-in-Listed
+returns-in-Listed c = as_told _ c.before.before.before.before.before.answer-1.given.1 c.before.before.put_five.ensures refl
 
-same-length-2 : tie.Need-same-length-2
-same-length-2 c = search rules
+shape_of-out-in-Refused : tie.Need-shape_of-out-in-Refused
+shape_of-out-in-Refused c = search rules
 
-returns-2 : tie.Need-returns-2
+returns-in-Refused : tie.Need-returns-in-Refused
 unfolding spell_answer
-returns-2 c =
-    let put = c.before.before.put-refusal.ensures in
-    as_told _ c.before.before.before.before.before.answer2.given.1 put.words put.count
+returns-in-Refused c =
+    let put = c.before.before.put_refusal.ensures in
+    as_told _ c.before.before.before.before.before.answer-in-Refused-1.given.1 put.words put.count
 
-pub put-read-spec : {M : Type 1} → statement M
-put-read-spec =
+pub put_read_spec : {M : Type 1} → statement M
+put_read_spec =
     tie.close
     (tie.spec
-    enum-known-answer
-    put-five-requires
-    add-result
-    enum-known-answer-2
-    put-refusal-requires
-    same_length
-    returns
-    same-length-2
-    returns-2)
+    enum_known-answer
+    put_five-requires
+    overflow_add-result
+    enum_known-answer-in-Refused-1
+    put_refusal-requires
+    shape_of-out-in-Listed
+    returns-in-Listed
+    shape_of-out-in-Refused
+    returns-in-Refused)

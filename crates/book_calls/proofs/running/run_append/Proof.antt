@@ -5,35 +5,35 @@ use Rattle.book_calls.proofs.running.run_append.Statement.{statement}
 use Rattle.book_calls.proofs.running.run_append.Tie as tie
 
 -- where the append is done, and the words of its answer are written
-module _ (c : tie.After-slice-known6) where
-  abbrev appended : tie.After-append
+module _ (c : tie.After-slice_known-6-1) where
+  abbrev appended : tie.After-append-answer
   appended = c.before.before.before.before.before.before.before.before
 
-desk-of-requires : tie.Need-desk-of-requires
-desk-of-requires c κs = search rules
+desk_of-desk-requires : tie.Need-desk_of-desk-requires
+desk_of-desk-requires c κs = search rules
 
-append-requires : tie.Need-append-requires
-append-requires c κs = search rules
+append-answer-requires : tie.Need-append-answer-requires
+append-answer-requires c κs = search rules
 
-put-append-requires : tie.Need-put-append-requires
-put-append-requires c κs = search rules
+put_append-requires : tie.Need-put_append-requires
+put_append-requires c κs = search rules
 
-same_length : tie.Need-same-length
-same_length c = search rules
+shape_of-body : tie.Need-shape_of-body
+shape_of-body c = search rules
 
-same-length-2 : tie.Need-same-length-2
-same-length-2 c = search rules
+shape_of-heads : tie.Need-shape_of-heads
+shape_of-heads c = search rules
 
-same-length-3 : tie.Need-same-length-3
-same-length-3 c = search rules
+shape_of-out : tie.Need-shape_of-out
+shape_of-out c = search rules
 
 returns : tie.Need-returns
 returns c =
-    let did = (appended c).append in
-    let desk = (appended c).before.before.before.before.before.before.desk-of.ensures in
-    append_done did.result desk did.ensures.0 did.ensures.1 c.before.before.put-append.ensures
+    let did = (appended c).append-answer in
+    let desk = (appended c).before.before.before.before.before.before.desk_of-desk.ensures in
+    append_done did.result desk did.ensures.0 did.ensures.1 c.before.before.put_append.ensures
 
-pub run-append-spec : {M : Type 1} → statement M
-run-append-spec =
+pub run_append_spec : {M : Type 1} → statement M
+run_append_spec =
     tie.close
-    (tie.spec desk-of-requires append-requires put-append-requires same_length same-length-2 same-length-3 returns)
+    (tie.spec desk_of-desk-requires append-answer-requires put_append-requires shape_of-body shape_of-heads shape_of-out returns)

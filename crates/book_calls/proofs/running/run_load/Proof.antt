@@ -5,35 +5,35 @@ use Rattle.book_calls.proofs.running.run_load.Statement.{statement}
 use Rattle.book_calls.proofs.running.run_load.Tie as tie
 
 -- where the load is done, and the words of its answer are written
-module _ (c : tie.After-slice-known6) where
-  abbrev loaded : tie.After-load
+module _ (c : tie.After-slice_known-6-1) where
+  abbrev loaded : tie.After-load-answer
   loaded = c.before.before.before.before.before.before.before.before
 
-desk-of-requires : tie.Need-desk-of-requires
-desk-of-requires c κs = search rules
+desk_of-desk-requires : tie.Need-desk_of-desk-requires
+desk_of-desk-requires c κs = search rules
 
-load-requires : tie.Need-load-requires
-load-requires c κs = search rules
+load-answer-requires : tie.Need-load-answer-requires
+load-answer-requires c κs = search rules
 
-put-load-requires : tie.Need-put-load-requires
-put-load-requires c κs = search rules
+put_load-requires : tie.Need-put_load-requires
+put_load-requires c κs = search rules
 
-same_length : tie.Need-same-length
-same_length c = search rules
+shape_of-body : tie.Need-shape_of-body
+shape_of-body c = search rules
 
-same-length-2 : tie.Need-same-length-2
-same-length-2 c = search rules
+shape_of-heads : tie.Need-shape_of-heads
+shape_of-heads c = search rules
 
-same-length-3 : tie.Need-same-length-3
-same-length-3 c = search rules
+shape_of-out : tie.Need-shape_of-out
+shape_of-out c = search rules
 
 returns : tie.Need-returns
 returns c =
-    let did = (loaded c).load in
-    let desk = (loaded c).before.before.before.before.before.before.desk-of.ensures in
-    load_done did.result desk did.ensures.0 did.ensures.1 c.before.before.put-load.ensures
+    let did = (loaded c).load-answer in
+    let desk = (loaded c).before.before.before.before.before.before.desk_of-desk.ensures in
+    load_done did.result desk did.ensures.0 did.ensures.1 c.before.before.put_load.ensures
 
-pub run-load-spec : {M : Type 1} → statement M
-run-load-spec =
+pub run_load_spec : {M : Type 1} → statement M
+run_load_spec =
     tie.close
-    (tie.spec desk-of-requires load-requires put-load-requires same_length same-length-2 same-length-3 returns)
+    (tie.spec desk_of-desk-requires load-answer-requires put_load-requires shape_of-body shape_of-heads shape_of-out returns)

@@ -12,7 +12,7 @@ use Rattle.book_calls.proofs.running.run_read.Statement.{statement}
 use Rattle.book_calls.proofs.running.run_read.Tie as tie
 
 -- what the read left
-module _ (c : tie.After-read) (free counts : List ℕ) where
+module _ (c : tie.After-read-answer) (free counts : List ℕ) where
   abbrev start : tie.Start
   start = c.before.before.before.before.before
 
@@ -29,47 +29,47 @@ module _ (c : tie.After-read) (free counts : List ℕ) where
   out = start.args.out.now
 
   abbrev part : List ℕ
-  part = c.read.new.1.1.1.1.0
+  part = c.read-answer.new.1.1.1.1.0
 
-  done : Put book key room out start.pre (reads book key room) c.read.result part
-  done = put_reads book key room out start.pre c.read.result part (c.read.ensures.0 free counts) (c.read.ensures.1 free counts)
+  done : Put book key room out start.pre (reads book key room) c.read-answer.result part
+  done = put_reads book key room out start.pre c.read-answer.result part (c.read-answer.ensures.0 free counts) (c.read-answer.ensures.1 free counts)
 
-add-end : tie.Need-overflow-add-end
-add-end c = search rules
+overflow_add-end : tie.Need-overflow_add-end
+overflow_add-end c = search rules
 
-sub_read : tie.Need-overflow-sub-read
-sub_read c = search rules
+slice_bounds-read-count : tie.Need-slice_bounds-read-count
+slice_bounds-read-count c = search rules
 
-part-read-start : tie.Need-slice-bounds-read-start
-part-read-start c = search rules
+slice_bounds-read-start : tie.Need-slice_bounds-read-start
+slice_bounds-read-start c = search rules
 
-part-read-end : tie.Need-slice-bounds-read-end
-part-read-end c = search rules
+slice_bounds-read-end : tie.Need-slice_bounds-read-end
+slice_bounds-read-end c = search rules
 
-read-requires : tie.Need-read-requires
-read-requires c κs = search rules
+read-answer-requires : tie.Need-read-answer-requires
+read-answer-requires c κs = search rules
 
-put-read-requires : tie.Need-put-read-requires
-put-read-requires c κs = let p = done c.before.before.before [] [] in (omega (arith, p.same), omega (arith, p.same, p.long))
+put_read-requires : tie.Need-put_read-requires
+put_read-requires c κs = let p = done c.before.before.before [] [] in (omega (arith, p.same), omega (arith, p.same, p.long))
 
-same_length : tie.Need-same-length
-same_length c = search rules
+shape_of-out : tie.Need-shape_of-out
+shape_of-out c = search rules
 
 returns : tie.Need-returns
 returns c free counts =
     let p = done c.before.before.before.before.before.before free counts in
-    let put = c.before.before.put-read in
+    let put = c.before.before.put_read in
     re_written put.ensures.0 (p.said put.result put.ensures.1)
 
-pub run-read-spec : {M : Type 1} → statement M
-run-read-spec =
+pub run_read_spec : {M : Type 1} → statement M
+run_read_spec =
     tie.close
     (tie.spec
-    add-end
-    sub_read
-    part-read-start
-    part-read-end
-    read-requires
-    put-read-requires
-    same_length
+    overflow_add-end
+    slice_bounds-read-count
+    slice_bounds-read-start
+    slice_bounds-read-end
+    read-answer-requires
+    put_read-requires
+    shape_of-out
     returns)

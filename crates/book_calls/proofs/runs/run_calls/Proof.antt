@@ -15,111 +15,111 @@ use Rattle.book_calls.proofs.runs.run_calls.Statement.{statement}
 use Rattle.book_calls.proofs.runs.run_calls.Tie as tie
 
 -- the words spell calls
-module _ (c : tie.Else1) where
+module _ (c : tie.Else-not-calls_spelled) where
   abbrev start : tie.Start
   start = c.before.before.before.before.before.before.before
 
   spelled : is_some (calls_of start.args.calls.now) ≡ true
-  spelled = sym c.before.calls-spelled.ensures ∙ not-false c.before.calls-spelled.result c.if1.false
+  spelled = sym c.before.calls_spelled.ensures ∙ not-false c.before.calls_spelled.result c.if-not-calls_spelled.false
 
 -- and their answers have room
-module _ (c : tie.Else2) where
-  abbrev told : tie.Else1
+module _ (c : tie.Else-not-calls_fit) where
+  abbrev told : tie.Else-not-calls_spelled
   told = c.before.before
 
   fit : (cs : List SpelledCall) → calls_of (start told).args.calls.now ≡ some cs
       → leb (answers_room cs) (length (start told).args.answers.now) ≡ true
-  fit cs e = sym (c.before.calls-fit.ensures cs e) ∙ not-false c.before.calls-fit.result c.if2.false
+  fit cs e = sym (c.before.calls_fit.ensures cs e) ∙ not-false c.before.calls_fit.result c.if-not-calls_fit.false
 
 -- the book is to be made
-module _ (c : tie.After-fresh) where
-  abbrev fitting : tie.Else2
+module _ (c : tie.After-fresh-made) where
+  abbrev fitting : tie.Else-not-calls_fit
   fitting = c.before.before.before.before.before.before.before.before
 
 -- it is made
-module _ (c : tie.After-enum-told) where
-  abbrev made : tie.After-fresh
+module _ (c : tie.In-Made) where
+  abbrev made : tie.After-fresh-made
   made = c.before.before.before.before
 
-calls-spelled-requires : tie.Need-calls-spelled-requires
-calls-spelled-requires c κs = search rules
+calls_spelled-requires : tie.Need-calls_spelled-requires
+calls_spelled-requires c κs = search rules
 
-returns : tie.Need-returns
-returns c =
-    unspelled _ _ _ _ (was_none _ (sym c.before.calls-spelled.ensures ∙ not-true c.before.calls-spelled.result c.if1.true))
+returns-then-not-calls_spelled : tie.Need-returns-then-not-calls_spelled
+returns-then-not-calls_spelled c =
+    unspelled _ _ _ _ (was_none _ (sym c.before.calls_spelled.ensures ∙ not-true c.before.calls_spelled.result c.if-not-calls_spelled.true))
 
-calls-fit-requires : tie.Need-calls-fit-requires
-calls-fit-requires c κs = spelled c
+calls_fit-requires : tie.Need-calls_fit-requires
+calls_fit-requires c κs = spelled c
 
-returns-2 : tie.Need-returns-2
-returns-2 c =
+returns-then-not-calls_fit : tie.Need-returns-then-not-calls_fit
+returns-then-not-calls_fit c =
     let (cs, e) = was_some _ (spelled c.before.before) in
-    too_short _ _ _ _ cs e (sym (c.before.calls-fit.ensures cs e) ∙ not-true c.before.calls-fit.result c.if2.true)
+    too_short _ _ _ _ cs e (sym (c.before.calls_fit.ensures cs e) ∙ not-true c.before.calls_fit.result c.if-not-calls_fit.true)
 
-fresh-requires : tie.Need-fresh-requires
-fresh-requires c κs = search rules
+fresh-made-requires : tie.Need-fresh-made-requires
+fresh-made-requires c κs = search rules
 
-enum_told : tie.Need-enum-told
-enum_told c = search rules
+enum_told-1 : tie.Need-enum_told-1
+enum_told-1 c = search rules
 
-run-spelled-requires : tie.Need-run-spelled-requires
-run-spelled-requires c κs =
+run_spelled-len-requires : tie.Need-run_spelled-len-requires
+run_spelled-len-requires c κs =
     let f = fitting (made c.before.before.before.before.before.before) in
     let (cs, e) = was_some _ (spelled (told f)) in
     record { list = cs; is = e; fits = leb-true _ _ (fit f cs e) }
 
-enum-known-made : tie.Need-enum-known-made
-enum-known-made c = search rules
+enum_known-made : tie.Need-enum_known-made
+enum_known-made c = search rules
 
-same_length : tie.Need-same-length
-same_length c = search rules
+shape_of-body-in-Made : tie.Need-shape_of-body-in-Made
+shape_of-body-in-Made c = search rules
 
-same-length-2 : tie.Need-same-length-2
-same-length-2 c = search rules
+shape_of-heads-in-Made : tie.Need-shape_of-heads-in-Made
+shape_of-heads-in-Made c = search rules
 
-same-length-3 : tie.Need-same-length-3
-same-length-3 c = search rules
+shape_of-answers : tie.Need-shape_of-answers
+shape_of-answers c = search rules
 
-returns-3 : tie.Need-returns-3
-returns-3 c =
+returns-in-Made : tie.Need-returns-in-Made
+returns-in-Made c =
     let ran = c.before.before.before.before.before.before in
     let known = ran.before.before.before.before.before.before.before in
     let f = fitting (made known) in
     let (cs, e) = was_some _ (spelled (told f)) in
-    let did = (made known).fresh.ensures in
-    all_ran _ _ _ _ _ _ cs _ _ _ e (fit f cs e) did.0 known.enum_told.given.1 did.1
-    (ran.run-spelled.ensures cs e)
+    let did = (made known).fresh-made.ensures in
+    all_ran _ _ _ _ _ _ cs _ _ _ e (fit f cs e) did.0 known.enum_told-1.given.1 did.1
+    (ran.run_spelled-len.ensures cs e)
 
-same-length-4 : tie.Need-same-length-4
-same-length-4 c = search rules
+shape_of-body-in-Refused : tie.Need-shape_of-body-in-Refused
+shape_of-body-in-Refused c = search rules
 
-same-length-5 : tie.Need-same-length-5
-same-length-5 c = search rules
+shape_of-heads-in-Refused : tie.Need-shape_of-heads-in-Refused
+shape_of-heads-in-Refused c = search rules
 
-returns-4 : tie.Need-returns-4
-returns-4 c =
+returns-in-Refused : tie.Need-returns-in-Refused
+returns-in-Refused c =
     let making = c.before.before.before.before.before in
     let f = fitting making in
     let (cs, e) = was_some _ (spelled (told f)) in
-    let did = making.fresh.ensures in
-    not_made _ _ _ _ _ cs _ _ e (fit f cs e) did.0 c.before.made.given.1 did.1
+    let did = making.fresh-made.ensures in
+    not_made _ _ _ _ _ cs _ _ e (fit f cs e) did.0 c.before.made-1.given.1 did.1
 
-pub run-calls-spec : {M : Type 1} → statement M
-run-calls-spec =
+pub run_calls_spec : {M : Type 1} → statement M
+run_calls_spec =
     tie.close
     (tie.spec
-    calls-spelled-requires
-    returns
-    calls-fit-requires
-    returns-2
-    fresh-requires
-    enum_told
-    run-spelled-requires
-    enum-known-made
-    same_length
-    same-length-2
-    same-length-3
-    returns-3
-    same-length-4
-    same-length-5
-    returns-4)
+    calls_spelled-requires
+    returns-then-not-calls_spelled
+    calls_fit-requires
+    returns-then-not-calls_fit
+    fresh-made-requires
+    enum_told-1
+    run_spelled-len-requires
+    enum_known-made
+    shape_of-body-in-Made
+    shape_of-heads-in-Made
+    shape_of-answers
+    returns-in-Made
+    shape_of-body-in-Refused
+    shape_of-heads-in-Refused
+    returns-in-Refused)

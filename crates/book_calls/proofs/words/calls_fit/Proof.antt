@@ -14,119 +14,119 @@ use Rattle.book_calls.proofs.LawsSteps.{was_somewhere, Fitting, fit_starts, fit_
 use Rattle.book_calls.proofs.words.calls_fit.Statement.{statement}
 use Rattle.book_calls.proofs.words.calls_fit.Tie as tie
 
-abbrev invariant_loop : tie.invariant_loop
+abbrev invariant_loop : tie.invariant-loop-at
 invariant_loop calls room left₀ at₀ left at =
     (at ≤ length calls) × ((cs : List SpelledCall) → calls_of calls ≡ some cs → Fitting calls room at left cs)
 
-abbrev decreases_loop : tie.decreases_loop
+abbrev decreases_loop : tie.decreases-loop-at
 decreases_loop calls room left₀ at₀ left at = length calls - at
 
 -- a call begins at the index
-module _ (k : tie.After-known-told invariant_loop decreases_loop) where
-  abbrev loc : tie.At-loop invariant_loop decreases_loop
+module _ (k : tie.In-At invariant_loop decreases_loop) where
+  abbrev loc : tie.At-loop-at invariant_loop decreases_loop
   loc = k.before.before.before.before.before
 
   abbrev words : List ℕ
   words = loc.before.before.args.calls.now
 
-  begun : NextIs words loc.loop.at (call_at (drop loc.loop.at words)) (At k.before.next.given.0.0)
-  begun = subst (NextIs _ _ _) k.before.next.given.1 k.before.before.before.next-call.ensures
+  begun : NextIs words loc.loop-at.at (call_at (drop loc.loop-at.at words)) (At k.before.next-1.given.0.0)
+  begun = subst (NextIs _ _ _) k.before.next-1.given.1 k.before.before.before.next_call-next.ensures
 
   -- words are left
-  more : loc.loop.at < length words
-  more = k.before.before.before.before.loop-test.taken
+  more : loc.loop-at.at < length words
+  more = k.before.before.before.before.loop-at-test.taken
 
-  inside : loc.loop.at + 3 ≤ length words
+  inside : loc.loop-at.at + 3 ≤ length words
   inside = let (b, e, r, l, m) = was_somewhere _ _ _ _ begun in omega (arith, l, m)
 
 -- and its answer has room
-module _ (c : tie.After-known-told2 invariant_loop decreases_loop) where
-  abbrev known : tie.After-known-told invariant_loop decreases_loop
+module _ (c : tie.In-Words invariant_loop decreases_loop) where
+  abbrev known : tie.In-At invariant_loop decreases_loop
   known = c.before.before.before.before.before.before
 
-loop-holds : tie.Need-loop-init invariant_loop decreases_loop
-loop-holds c = (omega arith, λ cs e. fit_starts _ _ cs e)
+loop-at-init : tie.Need-loop-at-init invariant_loop decreases_loop
+loop-at-init c = (omega arith, λ cs e. fit_starts _ _ cs e)
 
-next-call-requires : tie.Need-next-call-requires invariant_loop decreases_loop
-next-call-requires c κs = search rules
+next_call-next-requires : tie.Need-next_call-next-requires invariant_loop decreases_loop
+next_call-next-requires c κs = search rules
 
-enum-known-next : tie.Need-enum-known-next invariant_loop decreases_loop
-enum-known-next c = search rules
+enum_known-next : tie.Need-enum_known-next invariant_loop decreases_loop
+enum_known-next c = search rules
 
-enum_told : tie.Need-enum-told invariant_loop decreases_loop
-enum_told c = search rules
+enum_told-1 : tie.Need-enum_told-1 invariant_loop decreases_loop
+enum_told-1 c = search rules
 
-returns : tie.Need-returns invariant_loop decreases_loop
-returns c =
+returns-in_default : tie.Need-returns-in_default invariant_loop decreases_loop
+returns-in_default c =
     let l = c.before.before.before.before in
-    let told = subst (NextIs _ _ _) c.enum_told.given.1 c.before.before.next-call.ensures in
-    λ cs e. absurd (fit_nowhere (l.loop.invariant.1 cs e) c.before.before.before.loop-test.true told)
+    let told = subst (NextIs _ _ _) c.enum_told-1.given.1 c.before.before.next_call-next.ensures in
+    λ cs e. absurd (fit_nowhere (l.loop-at.invariant.1 cs e) c.before.before.before.loop-at-test.true told)
 
-mul-room-behind : tie.Need-overflow-mul-room-behind invariant_loop decreases_loop
-mul-room-behind c = search rules
+offset_bounds-calls-at : tie.Need-offset_bounds-calls-at invariant_loop decreases_loop
+offset_bounds-calls-at c = search rules
 
-shared-slice-read-room-behind : tie.Need-shared-slice-read-room-behind invariant_loop decreases_loop
-shared-slice-read-room-behind c = search rules
+bounds-calls-at : tie.Need-bounds-calls-at invariant_loop decreases_loop
+bounds-calls-at c = search rules
 
-add-room-behind : tie.Need-overflow-add-room-behind invariant_loop decreases_loop
-add-room-behind c = search (rules, inside c.before)
+overflow_add-at : tie.Need-overflow_add-at invariant_loop decreases_loop
+overflow_add-at c = search (rules, inside c.before)
 
-mul-room-behind-2 : tie.Need-overflow-mul-room-behind-2 invariant_loop decreases_loop
-mul-room-behind-2 c = search (rules, inside c.before)
+offset_bounds-calls-at-in-loop-at : tie.Need-offset_bounds-calls-at-in-loop-at invariant_loop decreases_loop
+offset_bounds-calls-at-in-loop-at c = search (rules, inside c.before)
 
-shared-slice-read-room-behind-2 : tie.Need-shared-slice-read-room-behind-2 invariant_loop decreases_loop
-shared-slice-read-room-behind-2 c = omega (arith, inside c.before.before)
+bounds-calls-at-in-loop-at : tie.Need-bounds-calls-at-in-loop-at invariant_loop decreases_loop
+bounds-calls-at-in-loop-at c = omega (arith, inside c.before.before)
 
-room-behind-requires : tie.Need-room-behind-requires invariant_loop decreases_loop
-room-behind-requires c κs = search rules
+room_behind-answered-requires : tie.Need-room_behind-answered-requires invariant_loop decreases_loop
+room_behind-answered-requires c κs = search rules
 
-enum-known-answered : tie.Need-enum-known-answered invariant_loop decreases_loop
-enum-known-answered c = search rules
+enum_known-answered : tie.Need-enum_known-answered invariant_loop decreases_loop
+enum_known-answered c = search rules
 
-enum-told-2 : tie.Need-enum-told-2 invariant_loop decreases_loop
-enum-told-2 c = search rules
+enum_told-in_default-answered : tie.Need-enum_told-in_default-answered invariant_loop decreases_loop
+enum_told-in_default-answered c = search rules
 
-returns-2 : tie.Need-returns-2 invariant_loop decreases_loop
+returns-in_default-answered : tie.Need-returns-in_default-answered invariant_loop decreases_loop
 unfolding RoomIs
-returns-2 c =
+returns-in_default-answered c =
     let k = c.before.before.before.before.before in
-    let little = subst (RoomIs _ _) c.enum-told2.given.1 c.before.before.room-behind.ensures in
-    λ cs e. fit_short ((loc k).loop.invariant.1 cs e) (more k) _ (begun k) little
+    let little = subst (RoomIs _ _) c.enum_told-in_default-answered-1.given.1 c.before.before.room_behind-answered.ensures in
+    λ cs e. fit_short ((loc k).loop-at.invariant.1 cs e) (more k) _ (begun k) little
 
-loop-less : tie.Need-loop-smaller invariant_loop decreases_loop
-loop-less c = let (b, e, r, l, m) = was_somewhere _ _ _ _ (begun (known c)) in omega (arith, l, m)
+loop-at-smaller : tie.Need-loop-at-smaller invariant_loop decreases_loop
+loop-at-smaller c = let (b, e, r, l, m) = was_somewhere _ _ _ _ (begun (known c)) in omega (arith, l, m)
 
-loop-again : tie.Need-loop-preserved invariant_loop decreases_loop
+loop-at-preserved : tie.Need-loop-at-preserved invariant_loop decreases_loop
 unfolding RoomIs
-loop-again c =
+loop-at-preserved c =
     let k = known c in
     let (b, e, r, l, m) = was_somewhere _ _ _ _ (begun k) in
-    let left = subst (RoomIs _ _) c.before.answered.given.1 c.before.before.before.room-behind.ensures in
-    (m, λ cs e. fit_goes ((loc k).loop.inv.1 cs e) (more k) _ (begun k) _ left)
+    let left = subst (RoomIs _ _) c.before.answered-1.given.1 c.before.before.before.room_behind-answered.ensures in
+    (m, λ cs e. fit_goes ((loc k).loop-at.invariant.1 cs e) (more k) _ (begun k) _ left)
 
-returns-3 : tie.Need-returns-3 invariant_loop decreases_loop
-returns-3 c = λ cs e. fit_ends (c.before.loop.invariant.1 cs e) (omega arith)
+returns : tie.Need-returns invariant_loop decreases_loop
+returns c = λ cs e. fit_ends (c.before.loop-at.invariant.1 cs e) (omega arith)
 
-pub calls-fit-spec : {M : Type 1} → statement M
-calls-fit-spec =
+pub calls_fit_spec : {M : Type 1} → statement M
+calls_fit_spec =
     tie.close
     (tie.spec
     invariant_loop
     decreases_loop
-    loop-holds
-    next-call-requires
-    enum-known-next
-    enum_told
-    returns
-    mul-room-behind
-    shared-slice-read-room-behind
-    add-room-behind
-    mul-room-behind-2
-    shared-slice-read-room-behind-2
-    room-behind-requires
-    enum-known-answered
-    enum-told-2
-    returns-2
-    loop-less
-    loop-again
-    returns-3)
+    loop-at-init
+    next_call-next-requires
+    enum_known-next
+    enum_told-1
+    returns-in_default
+    offset_bounds-calls-at
+    bounds-calls-at
+    overflow_add-at
+    offset_bounds-calls-at-in-loop-at
+    bounds-calls-at-in-loop-at
+    room_behind-answered-requires
+    enum_known-answered
+    enum_told-in_default-answered
+    returns-in_default-answered
+    loop-at-smaller
+    loop-at-preserved
+    returns)

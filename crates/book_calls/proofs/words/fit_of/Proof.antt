@@ -4,13 +4,13 @@ use Rattle.book_words.specs.SpellCalls.{fit_of}
 use Rattle.book_calls.proofs.words.fit_of.Statement.{statement}
 use Rattle.book_calls.proofs.words.fit_of.Tie as tie
 
+returns-then-kind-eq-LOAD : tie.Need-returns-then-kind-eq-LOAD
+unfolding fit_of
+returns-then-kind-eq-LOAD c = rw (eq-eqb c.before.args.kind 0 c.if-kind-eq-LOAD.true)
+
 returns : tie.Need-returns
 unfolding fit_of
-returns c = rw (eq-eqb c.before.args.kind 0 c.if1.true)
+returns c = rw (ne_eqb c.before.args.kind 0 c.if-kind-eq-LOAD.false)
 
-returns-2 : tie.Need-returns-2
-unfolding fit_of
-returns-2 c = rw (ne_eqb c.before.args.kind 0 c.if1.false)
-
-pub fit-of-spec : {M : Type 1} → statement M
-fit-of-spec = tie.close (tie.spec returns returns-2)
+pub fit_of_spec : {M : Type 1} → statement M
+fit_of_spec = tie.close (tie.spec returns-then-kind-eq-LOAD returns)

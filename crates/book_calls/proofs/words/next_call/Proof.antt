@@ -21,92 +21,92 @@ module _ (c : tie.Start) where
   at = c.args.at
 
 -- its first word and its third are read, and it is known whether it is a load
-module _ (c : tie.After-is-load) where
+module _ (c : tie.After-is_load) where
   abbrev start : tie.Start
   start = c.before.before.before.before.before
 
-  known : (t : Bool) → c.is-load.result ≡ t → is_load (get_or (calls start) (at start) 0) ≡ t
-  known t e = sym c.is-load.ensures ∙ e
+  known : (t : Bool) → c.is_load.result ≡ t → is_load (get_or (calls start) (at start) 0) ≡ t
+  known t e = sym c.is_load.ensures ∙ e
 
-sub-if1 : tie.Need-overflow-sub-if1
-sub-if1 c = search rules
+overflow_sub-calls : tie.Need-overflow_sub-calls
+overflow_sub-calls c = search rules
 
-returns : tie.Need-returns
-returns c = let s = c.before.before in nowhere (calls s) (at s) (call_short (calls s) (at s) (omega arith))
+returns-then-calls-at-lt3 : tie.Need-returns-then-calls-at-lt3
+returns-then-calls-at-lt3 c = let s = c.before.before in nowhere (calls s) (at s) (call_short (calls s) (at s) (omega arith))
 
-mul-kind : tie.Need-overflow-mul-kind
-mul-kind c = search rules
+offset_bounds-calls-at : tie.Need-offset_bounds-calls-at
+offset_bounds-calls-at c = search rules
 
-shared-slice-read-kind : tie.Need-shared-slice-read-kind
-shared-slice-read-kind c = search rules
+bounds-calls-at : tie.Need-bounds-calls-at
+bounds-calls-at c = search rules
 
-add-third : tie.Need-overflow-add-third
-add-third c = search rules
+overflow_add-third : tie.Need-overflow_add-third
+overflow_add-third c = search rules
 
-mul-third : tie.Need-overflow-mul-third
-mul-third c = search rules
+offset_bounds-calls-at-2 : tie.Need-offset_bounds-calls-at-2
+offset_bounds-calls-at-2 c = search rules
 
-shared-slice-read-third : tie.Need-shared-slice-read-third
-shared-slice-read-third c = search rules
+bounds-calls-at-2 : tie.Need-bounds-calls-at-2
+bounds-calls-at-2 c = search rules
 
-add-from : tie.Need-overflow-add-from
-add-from c = search rules
+overflow_add-from : tie.Need-overflow_add-from
+overflow_add-from c = search rules
 
-is-load-requires : tie.Need-is-load-requires
-is-load-requires c κs = search rules
+is_load-requires : tie.Need-is_load-requires
+is_load-requires c κs = search rules
 
-sub-if3 : tie.Need-overflow-sub-if3
-sub-if3 c = search rules
+overflow_sub-calls-then-is_load : tie.Need-overflow_sub-calls-then-is_load
+overflow_sub-calls-then-is_load c = search rules
 
-returns-2 : tie.Need-returns-2
-returns-2 c = let s = start c.before.before in next_load_short (calls s) (at s) (omega arith)
-    (known c.before.before true c.before.if2.true) c.if3.true
+returns-then-calls-from : tie.Need-returns-then-calls-from
+returns-then-calls-from c = let s = start c.before.before in next_load_short (calls s) (at s) (omega arith)
+    (known c.before.before true c.before.if-is_load.true) c.if-calls-from.true
 
-add-t14 : tie.Need-overflow-add-t14
-add-t14 c = search rules
+overflow_add-result : tie.Need-overflow_add-result
+overflow_add-result c = search rules
 
-returns-3 : tie.Need-returns-3
-returns-3 c = let s = start c.before.before in next_load (calls s) (at s) (omega arith)
-    (known c.before.before true c.before.if2.true) c.if3.false
+returns-then-is_load : tie.Need-returns-then-is_load
+returns-then-is_load c = let s = start c.before.before in next_load (calls s) (at s) (omega arith)
+    (known c.before.before true c.before.if-is_load.true) c.if-calls-from.false
 
-returns-4 : tie.Need-returns-4
-returns-4 c = let s = start c.before.before in next_other (calls s) (at s) (omega arith)
-    (known c.before.before false c.before.if2.false) c.if4.true
+returns-then-kind-gt-DROP : tie.Need-returns-then-kind-gt-DROP
+returns-then-kind-gt-DROP c = let s = start c.before.before in next_other (calls s) (at s) (omega arith)
+    (known c.before.before false c.before.if-is_load.false) c.if-kind-gt-DROP.true
 
-returns-5 : tie.Need-returns-5
-returns-5 c =
+returns-then-third-ne0 : tie.Need-returns-then-third-ne0
+returns-then-third-ne0 c =
     let s = start c.before.before.before.before in
-    next_drop_bad (calls s) (at s) (omega arith) c.before.if5.true c.if6.true
+    next_drop_bad (calls s) (at s) (omega arith) c.before.if-kind-eq-DROP.true c.if-third-ne0.true
 
-returns-6 : tie.Need-returns-6
-returns-6 c =
+returns-else-third-ne0 : tie.Need-returns-else-third-ne0
+returns-else-third-ne0 c =
     let s = start c.before.before.before.before in
-    next_drop (calls s) (at s) (omega arith) c.before.if5.true c.if6.false
+    next_drop (calls s) (at s) (omega arith) c.before.if-kind-eq-DROP.true c.if-third-ne0.false
 
-returns-7 : tie.Need-returns-7
-returns-7 c =
+returns-else-kind-eq-DROP : tie.Need-returns-else-kind-eq-DROP
+returns-else-kind-eq-DROP c =
     let s = start c.before.before.before in
-    next_plain (calls s) (at s) (omega arith) (known c.before.before.before false c.before.before.if2.false)
-    c.before.if4.false c.if5.false
+    next_plain (calls s) (at s) (omega arith) (known c.before.before.before false c.before.before.if-is_load.false)
+    c.before.if-kind-gt-DROP.false c.if-kind-eq-DROP.false
 
-pub next-call-spec : {M : Type 1} → statement M
-next-call-spec =
+pub next_call_spec : {M : Type 1} → statement M
+next_call_spec =
     tie.close
     (tie.spec
-    sub-if1
-    returns
-    mul-kind
-    shared-slice-read-kind
-    add-third
-    mul-third
-    shared-slice-read-third
-    add-from
-    is-load-requires
-    sub-if3
-    returns-2
-    add-t14
-    returns-3
-    returns-4
-    returns-5
-    returns-6
-    returns-7)
+    overflow_sub-calls
+    returns-then-calls-at-lt3
+    offset_bounds-calls-at
+    bounds-calls-at
+    overflow_add-third
+    offset_bounds-calls-at-2
+    bounds-calls-at-2
+    overflow_add-from
+    is_load-requires
+    overflow_sub-calls-then-is_load
+    returns-then-calls-from
+    overflow_add-result
+    returns-then-is_load
+    returns-then-kind-gt-DROP
+    returns-then-third-ne0
+    returns-else-third-ne0
+    returns-else-kind-eq-DROP)

@@ -8,18 +8,18 @@ use lib.Dec.{ltb}
 use Rattle.book_desks.proofs.counts.past_ceiling.Statement.{statement}
 use Rattle.book_desks.proofs.counts.past_ceiling.Tie as tie
 
+returns-then-pages-eq0 : tie.Need-returns-then-pages-eq0
+returns-then-pages-eq0 c =
+    let a = c.before.args in
+    sym (ap (λ (t : Bool). not t && ltb a.ceiling (a.held + a.pages)) (eq-eqb _ _ c.if-pages-eq0.true))
+
+overflow_add-result : tie.Need-overflow_add-result
+overflow_add-result c = search rules
+
 returns : tie.Need-returns
 returns c =
     let a = c.before.args in
-    sym (ap (λ (t : Bool). not t && ltb a.ceiling (a.held + a.pages)) (eq-eqb _ _ c.if1.true))
+    sym (ap (λ (t : Bool). not t && ltb a.ceiling (a.held + a.pages)) (ne_eqb _ _ c.if-pages-eq0.false))
 
-add-result : tie.Need-overflow-add-result
-add-result c = search rules
-
-returns-2 : tie.Need-returns-2
-returns-2 c =
-    let a = c.before.args in
-    sym (ap (λ (t : Bool). not t && ltb a.ceiling (a.held + a.pages)) (ne_eqb _ _ c.if1.false))
-
-pub past-ceiling-spec : {M : Type 1} → statement M
-past-ceiling-spec = tie.close (tie.spec returns add-result returns-2)
+pub past_ceiling_spec : {M : Type 1} → statement M
+past_ceiling_spec = tie.close (tie.spec returns-then-pages-eq0 overflow_add-result returns)

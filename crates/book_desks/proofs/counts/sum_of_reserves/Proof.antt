@@ -15,62 +15,62 @@ use Rattle.book_desks.proofs.counts.sum_of_reserves.Tie as tie
 abbrev kept_at : List ℕ → ℕ → ℕ
 kept_at counts d = get_or counts (reserve_at d) 0
 
-abbrev invariant_loop : tie.invariant_loop
+abbrev invariant_loop : tie.invariant-loop-d
 invariant_loop counts sum₀ d₀ sum d = (d ≤ 16) × (sum ≡ sum_to d (kept_at counts)) × (sum ≤ d * 2 ^ 29)
 
-abbrev decreases_loop : tie.decreases_loop
+abbrev decreases_loop : tie.decreases-loop-d
 decreases_loop counts sum₀ d₀ sum d = 16 - d
 
-loop-holds : tie.Need-loop-init invariant_loop decreases_loop
-loop-holds c = (search rules, sum_none _, search rules)
+loop-d-init : tie.Need-loop-d-init invariant_loop decreases_loop
+loop-d-init c = (search rules, sum_none _, search rules)
 
-add-sum : tie.Need-overflow-add-sum invariant_loop decreases_loop
-add-sum c = search rules
+overflow_add-sum : tie.Need-overflow_add-sum invariant_loop decreases_loop
+overflow_add-sum c = search rules
 
-mul-sum : tie.Need-overflow-mul-sum invariant_loop decreases_loop
-mul-sum c = search rules
+offset_bounds-counts-d : tie.Need-offset_bounds-counts-d invariant_loop decreases_loop
+offset_bounds-counts-d c = search rules
 
-element-copy-out-sum : tie.Need-element-copy-out-sum invariant_loop decreases_loop
-element-copy-out-sum c = search rules
+bounds-counts-d : tie.Need-bounds-counts-d invariant_loop decreases_loop
+bounds-counts-d c = search rules
 
-add-sum-2 : tie.Need-overflow-add-sum-2 invariant_loop decreases_loop
-add-sum-2 c =
-    let l = c.before.before.loop in
-    omega (arith, c.before.before.before.requires l.d c.before.loop-test.true)
+overflow_add-sum-in-loop-d : tie.Need-overflow_add-sum-in-loop-d invariant_loop decreases_loop
+overflow_add-sum-in-loop-d c =
+    let l = c.before.before.loop-d in
+    omega (arith, c.before.before.before.requires l.d c.before.loop-d-test.true)
 
-add-d : tie.Need-overflow-add-d invariant_loop decreases_loop
-add-d c = search rules
+overflow_add-d : tie.Need-overflow_add-d invariant_loop decreases_loop
+overflow_add-d c = search rules
 
-loop-less : tie.Need-loop-smaller invariant_loop decreases_loop
-loop-less c = search rules
+loop-d-smaller : tie.Need-loop-d-smaller invariant_loop decreases_loop
+loop-d-smaller c = search rules
 
-loop-again : tie.Need-loop-preserved invariant_loop decreases_loop
-loop-again c =
-    let l = c.before.before.loop in
+loop-d-preserved : tie.Need-loop-d-preserved invariant_loop decreases_loop
+loop-d-preserved c =
+    let l = c.before.before.loop-d in
     let start = c.before.before.before in
-    let small = start.requires l.d c.before.loop-test.true in
+    let small = start.requires l.d c.before.loop-d-test.true in
     let kept = kept_at start.args.counts.now in
     (search rules, sum_step kept l.d l.sum (kept l.d) l.invariant.1 refl, omega (arith, small))
 
 returns : tie.Need-returns invariant_loop decreases_loop
 returns c =
-    let l = c.before.loop in
+    let l = c.before.loop-d in
     let words = c.before.before.args.counts.now in
     let e : l.d ≡ 16 = omega arith in
     l.invariant.1 ∙ ap (λ (n : ℕ). sum_to n (kept_at words)) e
 
-pub sum-of-reserves-spec : {M : Type 1} → statement M
-sum-of-reserves-spec =
+pub sum_of_reserves_spec : {M : Type 1} → statement M
+sum_of_reserves_spec =
     tie.close
     (tie.spec
     invariant_loop
     decreases_loop
-    loop-holds
-    add-sum
-    mul-sum
-    element-copy-out-sum
-    add-sum-2
-    add-d
-    loop-less
-    loop-again
+    loop-d-init
+    overflow_add-sum
+    offset_bounds-counts-d
+    bounds-counts-d
+    overflow_add-sum-in-loop-d
+    overflow_add-d
+    loop-d-smaller
+    loop-d-preserved
     returns)

@@ -6,17 +6,17 @@ use borrow.Author.Rules.{rules}
 use Rattle.book_desks.proofs.lists.desk_of.Statement.{statement}
 use Rattle.book_desks.proofs.lists.desk_of.Tie as tie
 
+returns-then-desks-key : tie.Need-returns-then-desks-key
+returns-then-desks-key c = sym (get_or-eq_default c.before.args.desks.now 0 (omega arith))
+
+bounds-desks-key : tie.Need-bounds-desks-key
+bounds-desks-key c = search rules
+
+overflow_cast-result : tie.Need-overflow_cast-result
+overflow_cast-result c = omega (arith, c.shared_slice_known-1.given c.before.before.args.key)
+
 returns : tie.Need-returns
-returns c = sym (get_or-eq_default c.before.args.desks.now 0 (omega arith))
+returns c = search rules
 
-shared-slice-read-result : tie.Need-shared-slice-read-result
-shared-slice-read-result c = search rules
-
-cast-result : tie.Need-overflow-cast-result
-cast-result c = omega (arith, c.shared-slice-known.given c.before.before.args.key)
-
-returns-2 : tie.Need-returns-2
-returns-2 c = search rules
-
-pub desk-of-spec : {M : Type 1} → statement M
-desk-of-spec = tie.close (tie.spec returns shared-slice-read-result cast-result returns-2)
+pub desk_of_spec : {M : Type 1} → statement M
+desk_of_spec = tie.close (tie.spec returns-then-desks-key bounds-desks-key overflow_cast-result returns)

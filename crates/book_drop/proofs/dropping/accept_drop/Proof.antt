@@ -6,17 +6,17 @@ use Rattle.book_drop.proofs.LawsDrop.{empty_word}
 use Rattle.book_drop.proofs.dropping.accept_drop.Statement.{statement}
 use Rattle.book_drop.proofs.dropping.accept_drop.Tie as tie
 
-mul-heads : tie.Need-overflow-mul-heads
-mul-heads c = search rules
+offset_bounds-heads-key : tie.Need-offset_bounds-heads-key
+offset_bounds-heads-key c = search rules
 
-slice-write-heads : tie.Need-slice-write-heads
-slice-write-heads c = search rules
+bounds-heads-key : tie.Need-bounds-heads-key
+bounds-heads-key c = search rules
 
-same_length : tie.Need-same-length
-same_length c = search rules
+shape_of-heads : tie.Need-shape_of-heads
+shape_of-heads c = search rules
 
 returns : tie.Need-returns
 returns c b s counts e = does_yes _ _ _ _ refl refl (rw (e, empty_word))
 
-pub accept-drop-spec : {M : Type 1} → statement M
-accept-drop-spec = tie.close (tie.spec mul-heads slice-write-heads same_length returns)
+pub accept_drop_spec : {M : Type 1} → statement M
+accept_drop_spec = tie.close (tie.spec offset_bounds-heads-key bounds-heads-key shape_of-heads returns)

@@ -18,35 +18,35 @@ module _ (t : tie.Start) where
   abbrev book : Book
   book = book_of t.args.body.now t.args.heads.now t.args.mark.now t.args.free.now t.args.counts.now
 
-enum_told : tie.Need-enum-told
-enum_told c = search rules
+enum_told-1 : tie.Need-enum_told-1
+enum_told-1 c = search rules
 
-accept-drop-requires : tie.Need-accept-drop-requires
-accept-drop-requires c κs = search rules
+accept_drop-requires : tie.Need-accept_drop-requires
+accept_drop-requires c κs = search rules
 
-enum-told-2 : tie.Need-enum-told-2
-enum-told-2 c = search rules
+enum_told-in-Inline : tie.Need-enum_told-in-Inline
+enum_told-in-Inline c = search rules
 
-accept-drop-requires-2 : tie.Need-accept-drop-requires-2
-accept-drop-requires-2 c κs = search rules
+accept_drop-requires-in-Inline : tie.Need-accept_drop-requires-in-Inline
+accept_drop-requires-in-Inline c κs = search rules
 
-enum-known-place : tie.Need-enum-known-place
-enum-known-place c = search rules
+enum_known-place : tie.Need-enum_known-place
+enum_known-place c = search rules
 
-drop-slab-requires : tie.Need-drop-slab-requires
-drop-slab-requires c κs = search rules
+drop_slab-requires : tie.Need-drop_slab-requires
+drop_slab-requires c κs = search rules
 
-enum-known-place-2 : tie.Need-enum-known-place-2
-enum-known-place-2 c = search rules
+enum_known-place-in-Extent-1 : tie.Need-enum_known-place-in-Extent-1
+enum_known-place-in-Extent-1 c = search rules
 
-drop-chain-requires : tie.Need-drop-chain-requires
-drop-chain-requires c κs = search rules
+drop_chain-requires : tie.Need-drop_chain-requires
+drop_chain-requires c κs = search rules
 
-same_length : tie.Need-same-length
-same_length c = search rules
+shape_of-heads-in-Empty : tie.Need-shape_of-heads-in-Empty
+shape_of-heads-in-Empty c = search rules
 
-returns : tie.Need-returns
-returns c =
+returns-in-Empty : tie.Need-returns-in-Empty
+returns-in-Empty c =
     let d = c.before.before.before.before in
     let t = d.before.before.before.before in
     let b = book t in
@@ -55,71 +55,71 @@ returns c =
     does_same
     (drop_yes desk b key Empty (record { numbers = []; blocks = []; pages = 0; padded = 0 }) 0 b.space
     (content_empty (seen b.space)) refl refl (sym (release_none b.space))
-    ∙ ap (drops_at desk b key) (sym d.enum_told.given.1))
-    (c.before.before.accept-drop.ensures b b.space b.counts refl)
+    ∙ ap (drops_at desk b key) (sym d.enum_told-1.given.1))
+    (c.before.before.accept_drop.ensures b b.space b.counts refl)
 
-same-length-2 : tie.Need-same-length-2
-same-length-2 c = search rules
+shape_of-heads-in-Inline : tie.Need-shape_of-heads-in-Inline
+shape_of-heads-in-Inline c = search rules
 
-returns-2 : tie.Need-returns-2
-returns-2 c =
+returns-in-Inline : tie.Need-returns-in-Inline
+returns-in-Inline c =
     let d = c.before.before.before.before in
     let t = d.before.before.before.before in
     let b = book t in
     let desk = t.args.desk in
     let key = t.args.key in
-    let entry = d.enum-told2.given.0.0 in
-    let used = d.enum-told2.given.0.1.0 in
+    let entry = d.enum_told-in-Inline-1.given.0.0 in
+    let used = d.enum_told-in-Inline-1.given.0.1.0 in
     does_same
     (drop_yes desk b key (Inline entry used) (record { numbers = entry ∷ []; blocks = []; pages = 0; padded = 0 }) 1 b.space
     (content_inline (seen b.space) entry used) refl refl
-    (sym (release_none b.space)) ∙ ap (drops_at desk b key) (sym d.enum-told2.given.1))
-    (c.before.before.accept-drop2.ensures b b.space b.counts refl)
+    (sym (release_none b.space)) ∙ ap (drops_at desk b key) (sym d.enum_told-in-Inline-1.given.1))
+    (c.before.before.accept_drop-in-Inline.ensures b b.space b.counts refl)
 
-same-length-3 : tie.Need-same-length-3
-same-length-3 c = search rules
+shape_of-body-in-Slab : tie.Need-shape_of-body-in-Slab
+shape_of-body-in-Slab c = search rules
 
-same-length-4 : tie.Need-same-length-4
-same-length-4 c = search rules
+shape_of-heads-in-Slab : tie.Need-shape_of-heads-in-Slab
+shape_of-heads-in-Slab c = search rules
 
-returns-3 : tie.Need-returns-3
-returns-3 c =
+returns-in-Slab : tie.Need-returns-in-Slab
+returns-in-Slab c =
     let s = c.before.before.before.before in
     let d = s.before.before.before.before.before.before in
     let a = d.before.before.before.before.args in
-    rw d.place.given.1 (s.drop-slab.ensures a.desk a.counts.now)
+    rw d.place-1.given.1 (s.drop_slab.ensures a.desk a.counts.now)
 
-same-length-5 : tie.Need-same-length-5
-same-length-5 c = search rules
+shape_of-body-in-Extent : tie.Need-shape_of-body-in-Extent
+shape_of-body-in-Extent c = search rules
 
-same-length-6 : tie.Need-same-length-6
-same-length-6 c = search rules
+shape_of-heads-in-Extent : tie.Need-shape_of-heads-in-Extent
+shape_of-heads-in-Extent c = search rules
 
-returns-4 : tie.Need-returns-4
-returns-4 c =
+returns-in-Extent : tie.Need-returns-in-Extent
+returns-in-Extent c =
     let s = c.before.before.before.before in
     let d = s.before.before.before.before.before.before.before in
-    rw d.place2.given.1 s.drop-chain.ensures
+    rw d.place-in-Extent-1.given.1 s.drop_chain.ensures
 
 pub drop_at_spec : {M : Type 1} → statement M
 drop_at_spec =
     tie.close
     (tie.spec
-    enum_told
-    accept-drop-requires
-    enum-told-2
-    accept-drop-requires-2
-    enum-known-place
-    drop-slab-requires
-    enum-known-place-2
-    drop-chain-requires
-    same_length
-    returns
-    same-length-2
-    returns-2
-    same-length-3
-    same-length-4
-    returns-3
-    same-length-5
-    same-length-6
-    returns-4)
+    enum_told-1
+    accept_drop-requires
+    enum_told-in-Inline
+    accept_drop-requires-in-Inline
+    enum_known-place
+    drop_slab-requires
+    enum_known-place-in-Extent-1
+    drop_chain-requires
+    shape_of-heads-in-Empty
+    returns-in-Empty
+    shape_of-heads-in-Inline
+    returns-in-Inline
+    shape_of-body-in-Slab
+    shape_of-heads-in-Slab
+    returns-in-Slab
+    shape_of-body-in-Extent
+    shape_of-heads-in-Extent
+    returns-in-Extent)

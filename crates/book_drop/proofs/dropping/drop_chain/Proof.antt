@@ -30,22 +30,22 @@ module _ (t : tie.Start) where
   book = book_of t.args.body.now t.args.heads.now t.args.mark.now t.args.free.now t.args.counts.now
 
 -- the chain was walked
-module _ (c : tie.After-end) where
+module _ (c : tie.In-Chain-2) where
   abbrev at : tie.Start
   at = c.before.before.before.before.before.before.before
 
   abbrev end : ChainEndOf
   end =
       record {
-        first = c.end.given.0.0;
-        length = c.end.given.0.1.0;
-        pages = c.end.given.0.1.1.0;
-        padded = c.end.given.0.1.1.1.0;
+        first = c.end-1.given.0.0;
+        length = c.end-1.given.0.1.0;
+        pages = c.end-1.given.0.1.1.0;
+        padded = c.end-1.given.0.1.1.1.0;
       }
 
   walked : (x : Chain) × (chain_at (seen (book at).space) at.args.last ≡ accepted x) × (chain_end_of false x ≡ end)
   walked =
-      let got = was_accepted (chain_end_of false) _ (sym c.before.before.chain-end.ensures ∙ ap chain_answer c.end.given.1) in (
+      let got = was_accepted (chain_end_of false) _ (sym c.before.before.chain_end-end.ensures ∙ ap chain_answer c.end-1.given.1) in (
         got.0,
         was_sound _ got.1,
         got.2,
@@ -64,91 +64,91 @@ module _ (c : tie.After-end) where
   some = omega (arith, all, (chain_known (seen (book at).space) at.args.last walked.0 walked.1).some.0)
 
 -- its pages were judged
-module _ (g : tie.After-give-back) where
-  abbrev gone : tie.After-end
+module _ (g : tie.After-give_back-number) where
+  abbrev gone : tie.In-Chain-2
   gone = g.before.before.before
 
-chain-end-requires : tie.Need-chain-end-requires
-chain-end-requires c κs = search rules
+chain_end-end-requires : tie.Need-chain_end-end-requires
+chain_end-end-requires c κs = search rules
 
-enum-known-end : tie.Need-enum-known-end
-enum-known-end c = search rules
+enum_known-end : tie.Need-enum_known-end
+enum_known-end c = search rules
 
-enum_told : tie.Need-enum-told
-enum_told c = search rules
+enum_told-1 : tie.Need-enum_told-1
+enum_told-1 c = search rules
 
-same_length : tie.Need-same-length
-same_length c = search rules
+shape_of-body-in_default : tie.Need-shape_of-body-in_default
+shape_of-body-in_default c = search rules
 
-returns : tie.Need-returns
-returns c =
+returns-in_default : tie.Need-returns-in_default
+returns-in_default c =
     let t = c.before.before.before.before.before.before.before in
     let a = t.args in
-    let stop = was_refused (chain_end_of false) _ (sym c.before.before.chain-end.ensures
-    ∙ ap chain_answer c.enum_told.given.1) in
+    let stop = was_refused (chain_end_of false) _ (sym c.before.before.chain_end-end.ensures
+    ∙ ap chain_answer c.enum_told-1.given.1) in
     let bad = was_unsound _ stop in
     ends_refused (book t) _
     (drop_no a.desk (book t) a.key (Extent a.last)
     (content_no_pages (seen (book t).space) a.last bad.1))
 
-give-back-requires : tie.Need-give-back-requires
-give-back-requires c κs = let d = c.before.before in record { known = (at d).requires.known; some = some d }
+give_back-number-requires : tie.Need-give_back-number-requires
+give_back-number-requires c κs = let d = c.before.before in record { known = (at d).requires.known; some = some d }
 
-same-length-2 : tie.Need-same-length-2
-same-length-2 c = search rules
+shape_of-body-then-number-ne0 : tie.Need-shape_of-body-then-number-ne0
+shape_of-body-then-number-ne0 c = search rules
 
-returns-2 : tie.Need-returns-2
-returns-2 c =
+returns-then-number-ne0 : tie.Need-returns-then-number-ne0
+returns-then-number-ne0 c =
     let g = c.before in
     let d = gone g in
     let a = (at d).args in
     let k = walked d in
     drop_turned a.desk (book (at d)) a.key (Extent a.last) (in_pages k.0) (end d).pages (held d) (all d) (some d)
-    g.give-back.ensures c.if1.true
+    g.give_back-number.ensures c.if-number-ne0.true
 
-release-chain-requires : tie.Need-release-chain-requires
-release-chain-requires c κs =
+release_chain-requires : tie.Need-release_chain-requires
+release_chain-requires c κs =
     let d = gone c.before.before.before in ((at d).args.mark.now, (walked d).0.offs, left d)
 
-accept-drop-requires : tie.Need-accept-drop-requires
-accept-drop-requires c κs = search rules
+accept_drop-requires : tie.Need-accept_drop-requires
+accept_drop-requires c κs = search rules
 
-same-length-3 : tie.Need-same-length-3
-same-length-3 c = search rules
+shape_of-body : tie.Need-shape_of-body
+shape_of-body c = search rules
 
-same-length-4 : tie.Need-same-length-4
-same-length-4 c = search rules
+shape_of-heads : tie.Need-shape_of-heads
+shape_of-heads c = search rules
 
-returns-3 : tie.Need-returns-3
-returns-3 c =
-    let done = c.before.before.accept-drop in
+returns : tie.Need-returns
+returns c =
+    let done = c.before.before.accept_drop in
     let r = c.before.before.before.before.before.before in
     let e = r.before.before.before in
     let g = e.before in
     let d = gone g in
     let a = (at d).args in
     let k = walked d in
-    let after = space r.release-chain.new.0 a.mark.now r.release-chain.new.1.0 in
+    let after = space r.release_chain.new.0 a.mark.now r.release_chain.new.1.0 in
     does_same
     (drop_given a.desk (book (at d)) a.key (Extent a.last) (in_pages k.0) (end d).pages (held d) (all d) (some d)
-    g.give-back.ensures e.if1.false (end d).length after (ap (λ (x : ChainEndOf). x.length) k.2)
-    (r.release-chain.ensures a.mark.now k.0.offs (left d)))
-    (done.ensures (book (at d)) after g.give-back.new.0 refl)
+    g.give_back-number.ensures e.if-number-ne0.false (end d).length after (ap (λ (x : ChainEndOf). x.length) k.2)
+    (r.release_chain.ensures a.mark.now k.0.offs (left d)))
+    (done.ensures (book (at d)) after g.give_back-number.new.0 refl)
 
-pub drop-chain-spec : {M : Type 1} → statement M
-drop-chain-spec =
+pub drop_chain_spec : {M : Type 1} → statement M
+drop_chain_spec =
     tie.close
     (tie.spec
-    chain-end-requires
-    enum-known-end
-    enum_told
-    same_length
-    returns
-    give-back-requires
-    same-length-2
-    returns-2
-    release-chain-requires
-    accept-drop-requires
-    same-length-3
-    same-length-4
-    returns-3)
+    chain_end-end-requires
+    enum_known-end
+    enum_told-1
+    shape_of-body-in_default
+    returns-in_default
+    give_back-number-requires
+    shape_of-body-then-number-ne0
+    returns-then-number-ne0
+    release_chain-requires
+    accept_drop-requires
+    shape_of-body
+    shape_of-heads
+    returns)

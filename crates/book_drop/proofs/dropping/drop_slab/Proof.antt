@@ -34,14 +34,14 @@ module _ (t : tie.Start) where
   book counts = book_of t.args.body.now t.args.heads.now t.args.mark.now t.args.free.now counts
 
 -- the slab was scanned
-module _ (c : tie.After-enum-told) where
+module _ (c : tie.In-Scanned) where
   abbrev at : tie.Start
   at = c.before.before.before.before.before.before.before
 
   scanned : (x : Scan) × (scan at ≡ accepted x)
   scanned =
-      let got = was_accepted (end_from 0) (soundly (scan at)) (sym c.before.before.slab-end.ensures
-      ∙ ap scan_answer c.enum_told.given.1) in (
+      let got = was_accepted (end_from 0) (soundly (scan at)) (sym c.before.before.slab_end-end.ensures
+      ∙ ap scan_answer c.enum_told-1.given.1) in (
         got.0,
         was_sound (scan at) got.1,
       )
@@ -50,76 +50,76 @@ module _ (c : tie.After-enum-told) where
   sound = slab_sound (seen (here at)) at.args.class at.args.used at.args.off scanned.0 scanned.1
 
 -- the slab isn't sound
-module _ (c : tie.After-enum-told2) where
+module _ (c : tie.In_default) where
   abbrev call : tie.Start
   call = c.before.before.before.before.before.before.before
 
   unsound : (m : ℕ) × (scan call ≡ refused m)
   unsound =
       was_unsound (scan call)
-      (was_refused (end_from 0) (soundly (scan call)) (sym c.before.before.slab-end.ensures ∙ ap scan_answer c.enum-told2.given.1))
+      (was_refused (end_from 0) (soundly (scan call)) (sym c.before.before.slab_end-end.ensures ∙ ap scan_answer c.enum_told-in_default-1.given.1))
 
-slab-end-requires : tie.Need-slab-end-requires
-slab-end-requires c κs = search rules
+slab_end-end-requires : tie.Need-slab_end-end-requires
+slab_end-end-requires c κs = search rules
 
-enum_told : tie.Need-enum-told
-enum_told c = search rules
+enum_told-1 : tie.Need-enum_told-1
+enum_told-1 c = search rules
 
-enum-told-2 : tie.Need-enum-told-2
-enum-told-2 c = search rules
+enum_told-in_default : tie.Need-enum_told-in_default
+enum_told-in_default c = search rules
 
-same_length : tie.Need-same-length
-same_length c = search rules
+shape_of-body-in_default : tie.Need-shape_of-body-in_default
+shape_of-body-in_default c = search rules
 
-returns : tie.Need-returns
-returns c desk counts =
+returns-in_default : tie.Need-returns-in_default
+returns-in_default c desk counts =
     let t = call c in
     let a = t.args in
     ends_refused (book t counts) _
     (drop_no desk (book t counts) a.key (Slab a.class a.used a.off)
     (content_no_slab (seen (here t)) a.class a.used a.off (unsound c).1))
 
-release-block-requires : tie.Need-release-block-requires
-release-block-requires c κs =
+release_block-requires : tie.Need-release_block-requires
+release_block-requires c κs =
     let d = c.before.before in
     let a = (at d).args in
     stands_further a.class a.off a.mark.now (length a.body.now) (at d).requires.within (sound d).stands
 
-accept-drop-requires : tie.Need-accept-drop-requires
-accept-drop-requires c κs = search rules
+accept_drop-requires : tie.Need-accept_drop-requires
+accept_drop-requires c κs = search rules
 
-same-length-2 : tie.Need-same-length-2
-same-length-2 c = search rules
+shape_of-body : tie.Need-shape_of-body
+shape_of-body c = search rules
 
-same-length-3 : tie.Need-same-length-3
-same-length-3 c = search rules
+shape_of-heads : tie.Need-shape_of-heads
+shape_of-heads c = search rules
 
-returns-2 : tie.Need-returns-2
-returns-2 c desk counts =
-    let done = c.before.before.accept-drop in
+returns : tie.Need-returns
+returns c desk counts =
+    let done = c.before.before.accept_drop in
     let r = c.before.before.before.before.before.before in
     let d = r.before.before.before in
     let t = at d in
     let a = t.args in
-    let after = space r.release-block.new.0 a.mark.now r.release-block.new.1.0 in
+    let after = space r.release_block.new.0 a.mark.now r.release_block.new.1.0 in
     does_same
     (drop_yes desk (book t counts) a.key (Slab a.class a.used a.off)
     (in_slab (seen (here t)) a.class a.off (scanned d).0) a.used after
     (content_slab (seen (here t)) a.class a.used a.off (scanned d).0 (scanned d).1) refl (sound d).counted
-    (r.release-block.ensures a.mark.now))
+    (r.release_block.ensures a.mark.now))
     (done.ensures (book t counts) after counts refl)
 
-pub drop-slab-spec : {M : Type 1} → statement M
-drop-slab-spec =
+pub drop_slab_spec : {M : Type 1} → statement M
+drop_slab_spec =
     tie.close
     (tie.spec
-    slab-end-requires
-    enum_told
-    enum-told-2
-    same_length
-    returns
-    release-block-requires
-    accept-drop-requires
-    same-length-2
-    same-length-3
-    returns-2)
+    slab_end-end-requires
+    enum_told-1
+    enum_told-in_default
+    shape_of-body-in_default
+    returns-in_default
+    release_block-requires
+    accept_drop-requires
+    shape_of-body
+    shape_of-heads
+    returns)

@@ -46,123 +46,123 @@ module _ (s : tie.Start) where
   word = get_or s.args.heads.now s.args.key 0
 
 -- the head word told a place
-module _ (k : tie.After-known-told) where
-  abbrev unpacked : tie.After-unpack8
+module _ (k : tie.In-Head) where
+  abbrev unpacked : tie.After-unpack8-head
   unpacked = k.before.before.before
 
   abbrev start : tie.Start
   start = unpacked.before.before.before.before.before
 
-  stands : unpack_head (get_or start.args.heads.now start.args.key 0) ≡ accepted k.before.head.given.0.0
-  stands = sym unpacked.unpack8.ensures ∙ ap unpack_answer k.before.head.given.1
+  stands : unpack_head (get_or start.args.heads.now start.args.key 0) ≡ accepted k.before.head-1.given.0.0
+  stands = sym unpacked.unpack8-head.ensures ∙ ap unpack_answer k.before.head-1.given.1
 
-mul-unpack8 : tie.Need-overflow-mul-unpack8
-mul-unpack8 c = search rules
+offset_bounds-heads-key : tie.Need-offset_bounds-heads-key
+offset_bounds-heads-key c = search rules
 
-slice-read-unpack8 : tie.Need-slice-read-unpack8
-slice-read-unpack8 c = search rules
+bounds-heads-key : tie.Need-bounds-heads-key
+bounds-heads-key c = search rules
 
-unpack8-requires : tie.Need-unpack8-requires
-unpack8-requires c κs = search rules
+unpack8-head-requires : tie.Need-unpack8-head-requires
+unpack8-head-requires c κs = search rules
 
-enum-known-head : tie.Need-enum-known-head
-enum-known-head c = search rules
+enum_known-head : tie.Need-enum_known-head
+enum_known-head c = search rules
 
-enum_told : tie.Need-enum-told
-enum_told c = search rules
+enum_told-1 : tie.Need-enum_told-1
+enum_told-1 c = search rules
 
-returns : tie.Need-returns
-returns c =
+returns-in_default : tie.Need-returns-in_default
+returns-in_default c =
     let u = c.before.before in
     let s = u.before.before.before.before.before in
     record {
       unsound = λ free counts.
-          standing_none (b s free counts) s.args.key (sym u.unpack8.ensures ∙ ap unpack_answer c.enum_told.given.1);
+          standing_none (b s free counts) s.args.key (sym u.unpack8-head.ensures ∙ ap unpack_answer c.enum_told-1.given.1);
       body_kept = refl;
       heads_kept = refl;
     }
 
-enum-told-2 : tie.Need-enum-told-2
-enum-told-2 c = search rules
+enum_told-in-Empty : tie.Need-enum_told-in-Empty
+enum_told-in-Empty c = search rules
 
-enum-told-3 : tie.Need-enum-told-3
-enum-told-3 c = search rules
+enum_told-in-Inline : tie.Need-enum_told-in-Inline
+enum_told-in-Inline c = search rules
 
-enum-known-place : tie.Need-enum-known-place
-enum-known-place c = search rules
+enum_known-place : tie.Need-enum_known-place
+enum_known-place c = search rules
 
-extend-slab-requires : tie.Need-extend-slab-requires
-extend-slab-requires c κs =
+extend_slab-requires : tie.Need-extend_slab-requires
+extend_slab-requires c κs =
     let p = c.before.before.before in
     let k = p.before.before in
     let pre = (start k).requires in
-    record { within = pre.0; keyed = pre.1; left = pre.2; stands = stands k ∙ ap accepted p.place.given.1 }
+    record { within = pre.0; keyed = pre.1; left = pre.2; stands = stands k ∙ ap accepted p.place-1.given.1 }
 
-enum-known-place-2 : tie.Need-enum-known-place-2
-enum-known-place-2 c = search rules
+enum_known-place-in-Extent-1 : tie.Need-enum_known-place-in-Extent-1
+enum_known-place-in-Extent-1 c = search rules
 
-extend-page-requires : tie.Need-extend-page-requires
-extend-page-requires c κs =
+extend_page-requires : tie.Need-extend_page-requires
+extend_page-requires c κs =
     let p = c.before.before.before in
     let k = p.before.before in
     let pre = (start k).requires in
-    record { within = pre.0; keyed = pre.1; left = pre.2; stands = stands k ∙ ap accepted p.place2.given.1 }
+    record { within = pre.0; keyed = pre.1; left = pre.2; stands = stands k ∙ ap accepted p.place-in-Extent-1.given.1 }
 
-returns-2 : tie.Need-returns-2
-returns-2 c =
+returns-in-Empty : tie.Need-returns-in-Empty
+returns-in-Empty c =
     let k = c.before.before in
     let s = start k in
-    let is = stands k ∙ ap accepted c.enum-told2.given.1 in
+    let is = stands k ∙ ap accepted c.enum_told-in-Empty-1.given.1 in
     none s _ (λ free counts. standing_empty (b s free counts) s.args.key is)
     (λ more free shape. empty_not (body_ground s.args.body.now s.args.mark) (next s) (word s) is)
 
-returns-3 : tie.Need-returns-3
-returns-3 c =
+returns-in-Inline : tie.Need-returns-in-Inline
+returns-in-Inline c =
     let k = c.before.before in
     let s = start k in
-    let is = stands k ∙ ap accepted c.enum-told3.given.1 in
+    let is = stands k ∙ ap accepted c.enum_told-in-Inline-1.given.1 in
     none s _ (λ free counts. standing_inline (b s free counts) s.args.key _ _ is)
     (λ more free shape. inline_not (body_ground s.args.body.now s.args.mark) (next s) (word s) _ _ is)
 
-same_length : tie.Need-same-length
-same_length c = search rules
+shape_of-body-in-Slab : tie.Need-shape_of-body-in-Slab
+shape_of-body-in-Slab c = search rules
 
-same-length-2 : tie.Need-same-length-2
-same-length-2 c = search rules
+shape_of-heads-in-Slab : tie.Need-shape_of-heads-in-Slab
+shape_of-heads-in-Slab c = search rules
 
-returns-4 : tie.Need-returns-4
-returns-4 c = c.before.before.before.before.extend-slab.ensures
+returns-in-Slab : tie.Need-returns-in-Slab
+returns-in-Slab c = c.before.before.before.before.extend_slab.ensures
 
-same-length-3 : tie.Need-same-length-3
-same-length-3 c = search rules
+shape_of-body-in-Extent : tie.Need-shape_of-body-in-Extent
+shape_of-body-in-Extent c = search rules
 
-same-length-4 : tie.Need-same-length-4
-same-length-4 c = search rules
+shape_of-heads-in-Extent : tie.Need-shape_of-heads-in-Extent
+shape_of-heads-in-Extent c = search rules
 
-returns-5 : tie.Need-returns-5
-returns-5 c = c.before.before.before.before.extend-page.ensures
+returns-in-Extent : tie.Need-returns-in-Extent
+returns-in-Extent c = c.before.before.before.before.extend_page.ensures
 
-pub extend-in-place-spec : {M : Type 1} → statement M
-extend-in-place-spec =
+pub extend_in_place_spec : {M : Type 1} → statement M
+extend_in_place_spec =
     tie.close
     (tie.spec
-    mul-unpack8
-    slice-read-unpack8
-    unpack8-requires
-    enum-known-head
-    enum_told
-    returns
-    enum-told-2
-    enum-told-3
-    enum-known-place
-    extend-slab-requires
-    enum-known-place-2
-    extend-page-requires
-    returns-2
-    returns-3
-    same_length
-    same-length-2
-    returns-4
-    same-length-3
-    same-length-4
-    returns-5)
+    offset_bounds-heads-key
+    bounds-heads-key
+    unpack8-head-requires
+    enum_known-head
+    enum_told-1
+    returns-in_default
+    enum_told-in-Empty
+    enum_told-in-Inline
+    enum_known-place
+    extend_slab-requires
+    enum_known-place-in-Extent-1
+    extend_page-requires
+    returns-in-Empty
+    returns-in-Inline
+    shape_of-body-in-Slab
+    shape_of-heads-in-Slab
+    returns-in-Slab
+    shape_of-body-in-Extent
+    shape_of-heads-in-Extent
+    returns-in-Extent)

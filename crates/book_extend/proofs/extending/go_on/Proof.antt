@@ -28,60 +28,60 @@ module _ (s : tie.Start) where
   }
 
 -- the shape is kept
-module _ (e : tie.Else2) where
+module _ (e : tie.Else-shape_broken) where
   abbrev start : tie.Start
   start = e.before.before.before.before.before.before.before
 
   shape : (free : List ℕ) → shape_broken (space start.args.body.now start.args.mark free) (length start.args.heads.now) ≡ false
-  shape free = sym (e.before.shape-broken.ensures free) ∙ e.if2.left
+  shape free = sym (e.before.shape_broken.ensures free) ∙ e.if-shape_broken.left
 
   -- the mark lies within the body
   marked : start.args.mark ≤ length start.args.body.now
   marked = (shape_holds (space start.args.body.now start.args.mark []) (length start.args.heads.now) (shape [])).0.within
 
 -- numbers went into the key's block, or not
-module _ (f : tie.After-extend-in-place) where
-  abbrev kept : tie.Else2
+module _ (f : tie.After-extend_in_place-reached) where
+  abbrev kept : tie.Else-shape_broken
   kept = f.before.before.before
 
   abbrev reach : Reached → Type 0
   reach r =
       Reaches (start kept).args.body.now (start kept).args.heads.now (start kept).args.mark (start kept).args.key
-      (start kept).args.fks.now (start kept).args.from f.extend-in-place.last.0 f.extend-in-place.last.1.0 r
+      (start kept).args.fks.now (start kept).args.from f.extend_in_place-reached.last.0 f.extend_in_place-reached.last.1.0 r
 
-returns : tie.Need-returns
-returns c = none c.before.before.before.before (λ more. absurd (omega (arith, more, c.if1.true)))
+returns-then-from-fks : tie.Need-returns-then-from-fks
+returns-then-from-fks c = none c.before.before.before.before (λ more. absurd (omega (arith, more, c.if-from-fks.true)))
 
-shape-broken-requires : tie.Need-shape-broken-requires
-shape-broken-requires c κs = search rules
+shape_broken-requires : tie.Need-shape_broken-requires
+shape_broken-requires c κs = search rules
 
-same_length : tie.Need-same-length
-same_length c = search rules
+shape_of-body-then-shape_broken : tie.Need-shape_of-body-then-shape_broken
+shape_of-body-then-shape_broken c = search rules
 
-returns-2 : tie.Need-returns-2
-returns-2 c = none c.before.before.before.before.before.before.before
-    (λ more free shape. absurd (true≢false (sym c.if2.true ∙ c.before.shape-broken.ensures free ∙ shape)))
+returns-then-shape_broken : tie.Need-returns-then-shape_broken
+returns-then-shape_broken c = none c.before.before.before.before.before.before.before
+    (λ more free shape. absurd (true≢false (sym c.if-shape_broken.true ∙ c.before.shape_broken.ensures free ∙ shape)))
 
-extend-in-place-requires : tie.Need-extend-in-place-requires
-extend-in-place-requires c κs = let e = c.before.before in (marked e, (start e).requires.0, (start e).requires.1)
+extend_in_place-reached-requires : tie.Need-extend_in_place-reached-requires
+extend_in_place-reached-requires c κs = let e = c.before.before in (marked e, (start e).requires.0, (start e).requires.1)
 
-enum-known-reached : tie.Need-enum-known-reached
-enum-known-reached c = search rules
+enum_known-reached : tie.Need-enum_known-reached
+enum_known-reached c = search rules
 
-enum_told : tie.Need-enum-told
-enum_told c = search rules
+enum_told-1 : tie.Need-enum_told-1
+enum_told-1 c = search rules
 
-same-length-2 : tie.Need-same-length-2
-same-length-2 c = search rules
+shape_of-body-in-To : tie.Need-shape_of-body-in-To
+shape_of-body-in-To c = search rules
 
-same-length-3 : tie.Need-same-length-3
-same-length-3 c = search rules
+shape_of-heads-in-To : tie.Need-shape_of-heads-in-To
+shape_of-heads-in-To c = search rules
 
-returns-3 : tie.Need-returns-3
-returns-3 c =
+returns-in-To : tie.Need-returns-in-To
+returns-in-To c =
     let f = c.before.before.before.before.before.before.before in
     let e = kept f in
-    let p = subst (reach f) c.before.reached.given.1 f.extend-in-place.ensures in
+    let p = subst (reach f) c.before.reached-1.given.1 f.extend_in_place-reached.ensures in
     record {
       later = p.later;
       within = p.within;
@@ -90,46 +90,46 @@ returns-3 c =
       stopped = p.stopped;
     }
 
-same-length-4 : tie.Need-same-length-4
-same-length-4 c = search rules
+shape_of-body-in-Unsound : tie.Need-shape_of-body-in-Unsound
+shape_of-body-in-Unsound c = search rules
 
-same-length-5 : tie.Need-same-length-5
-same-length-5 c = search rules
+shape_of-heads-in-Unsound : tie.Need-shape_of-heads-in-Unsound
+shape_of-heads-in-Unsound c = search rules
 
-returns-4 : tie.Need-returns-4
-returns-4 c =
+returns-in-Unsound : tie.Need-returns-in-Unsound
+returns-in-Unsound c =
     let f = c.before.before.before.before.before.before in
     let a = (start (kept f)).args in
-    let p = subst (reach f) c.enum_told.given.1 f.extend-in-place.ensures in
+    let p = subst (reach f) c.enum_told-1.given.1 f.extend_in_place-reached.ensures in
     record {
       later = omega arith;
       within = (start (kept f)).pre.1;
       goes = λ desk free counts known whole moves rewritten x.
           subst (λ (l : List ℕ). Extending desk a.key a.fks.now whole
-          (book_of l f.extend-in-place.new.1.0 a.mark free counts) a.from moves rewritten) (sym p.body_kept)
+          (book_of l f.extend_in_place-reached.new.1.0 a.mark free counts) a.from moves rewritten) (sym p.body_kept)
           (subst (λ (l : List ℕ). Extending desk a.key a.fks.now whole (book_of a.body.now l a.mark free counts) a.from
           moves rewritten) (sym p.heads_kept) x);
       stopped =
-          subst (λ (l : List ℕ). Stopped l f.extend-in-place.new.1.0 a.mark a.key a.fks.now a.from) (sym p.body_kept)
+          subst (λ (l : List ℕ). Stopped l f.extend_in_place-reached.new.1.0 a.mark a.key a.fks.now a.from) (sym p.body_kept)
           (subst (λ (l : List ℕ). Stopped a.body.now l a.mark a.key a.fks.now a.from) (sym p.heads_kept)
           (λ more free shape. unsound_not (book_of a.body.now a.heads.now a.mark free []) a.key
           (get_or a.fks.now a.from 0) (p.unsound free [])));
     }
 
-pub go-on-spec : {M : Type 1} → statement M
-go-on-spec =
+pub go_on_spec : {M : Type 1} → statement M
+go_on_spec =
     tie.close
     (tie.spec
-    returns
-    shape-broken-requires
-    same_length
-    returns-2
-    extend-in-place-requires
-    enum-known-reached
-    enum_told
-    same-length-2
-    same-length-3
-    returns-3
-    same-length-4
-    same-length-5
-    returns-4)
+    returns-then-from-fks
+    shape_broken-requires
+    shape_of-body-then-shape_broken
+    returns-then-shape_broken
+    extend_in_place-reached-requires
+    enum_known-reached
+    enum_told-1
+    shape_of-body-in-To
+    shape_of-heads-in-To
+    returns-in-To
+    shape_of-body-in-Unsound
+    shape_of-heads-in-Unsound
+    returns-in-Unsound)

@@ -6,24 +6,24 @@ use Rattle.scripthash_layout.specs.AnswersHead.{unpack_answer}
 use Rattle.book_extend.proofs.extending.place_in.Statement.{statement}
 use Rattle.book_extend.proofs.extending.place_in.Tie as tie
 
-unpack8-requires : tie.Need-unpack8-requires
-unpack8-requires c κs = search rules
+unpack8-head-requires : tie.Need-unpack8-head-requires
+unpack8-head-requires c κs = search rules
 
-enum-known-head : tie.Need-enum-known-head
-enum-known-head c = search rules
+enum_known-head : tie.Need-enum_known-head
+enum_known-head c = search rules
 
-enum_told : tie.Need-enum-told
-enum_told c = search rules
+enum_told-1 : tie.Need-enum_told-1
+enum_told-1 c = search rules
 
-returns : tie.Need-returns
-returns c = λ place is.
+returns-in-Head : tie.Need-returns-in-Head
+returns-in-Head c = λ place is.
     let u = c.before.before.before in
-    accepted_inj (sym (ap unpack_answer c.before.head.given.1) ∙ u.unpack8.ensures ∙ is)
+    accepted_inj (sym (ap unpack_answer c.before.head-1.given.1) ∙ u.unpack8-head.ensures ∙ is)
 
-returns-2 : tie.Need-returns-2
-returns-2 c = λ place is.
+returns-in-Refused : tie.Need-returns-in-Refused
+returns-in-Refused c = λ place is.
     let u = c.before.before in
-    absurd (refused≢accepted (sym (ap unpack_answer c.enum_told.given.1) ∙ u.unpack8.ensures ∙ is))
+    absurd (refused≢accepted (sym (ap unpack_answer c.enum_told-1.given.1) ∙ u.unpack8-head.ensures ∙ is))
 
-pub place-in-spec : {M : Type 1} → statement M
-place-in-spec = tie.close (tie.spec unpack8-requires enum-known-head enum_told returns returns-2)
+pub place_in_spec : {M : Type 1} → statement M
+place_in_spec = tie.close (tie.spec unpack8-head-requires enum_known-head enum_told-1 returns-in-Head returns-in-Refused)

@@ -6,13 +6,13 @@ use Rattle.book_extend.specs.Extends.{extended}
 use Rattle.book_extend.proofs.extending.told.Statement.{statement}
 use Rattle.book_extend.proofs.extending.told.Tie as tie
 
-place-in-requires : tie.Need-place-in-requires
-place-in-requires c κs = search rules
+place_in-place-requires : tie.Need-place_in-place-requires
+place_in-place-requires c κs = search rules
 
 returns : tie.Need-returns
 returns c = λ place is.
     let a = c.before.args in
     ap (λ (p : ShHeadValue). extended a.count a.refusal p a.moves a.rewritten) (c.IsPlace-in.ensures place is)
 
-pub told-spec : {M : Type 1} → statement M
-told-spec = tie.close (tie.spec place-in-requires returns)
+pub told_spec : {M : Type 1} → statement M
+told_spec = tie.close (tie.spec place_in-place-requires returns)

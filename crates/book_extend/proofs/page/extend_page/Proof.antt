@@ -23,57 +23,57 @@ use Rattle.book_extend.proofs.LawsPast.{page_not}
 use Rattle.book_extend.proofs.page.extend_page.Statement.{statement}
 use Rattle.book_extend.proofs.page.extend_page.Tie as tie
 
-abbrev invariant_loop : tie.invariant_loop
+abbrev invariant_loop : tie.invariant-loop-i
 invariant_loop body₀ heads₀ mark key last fks from taken fk creates at₀ prev₀ total₀ i₀ body heads at prev total i =
     Put body₀ heads₀ mark key fks from body heads i (Extent last) × PageEnds (body_ground body mark) last at prev total
 
-abbrev decreases_loop : tie.decreases_loop
+abbrev decreases_loop : tie.decreases-loop-i
 decreases_loop body₀ heads₀ mark key last fks from taken fk creates at₀ prev₀ total₀ i₀ body heads at prev total i = length fks - i
 
 -- the page's end was told
-module _ (k : tie.After-known-told invariant_loop decreases_loop) where
-  abbrev ended : tie.After-tail-end invariant_loop decreases_loop
+module _ (k : tie.In-Tail invariant_loop decreases_loop) where
+  abbrev ended : tie.After-tail_end-end invariant_loop decreases_loop
   ended = k.before.before.before
 
   abbrev start : tie.Start invariant_loop decreases_loop
   start = ended.before.before.before.before.before
 
   -- the page ends so
-  begins : PageEnds (body_ground start.args.body.now start.args.mark) start.args.last k.before.end.given.0.0
-      k.before.end.given.0.1.0 k.before.end.given.0.1.1.1.0
+  begins : PageEnds (body_ground start.args.body.now start.args.mark) start.args.last k.before.end-1.given.0.0
+      k.before.end-1.given.0.1.0 k.before.end-1.given.0.1.1.1.0
   begins =
       let a = start.args in
-      let t = tail_told a.body.now a.mark [] a.last ended.tail-end.ensures (ap tail_answer k.before.end.given.1) in
+      let t = tail_told a.body.now a.mark [] a.last ended.tail_end-end.ensures (ap tail_answer k.before.end-1.given.1) in
       record { tail = t.tail; sound = t.sound; taken_is = t.taken_is; fk_is = t.fk_is; creates_is = t.creates_is }
 
 -- at a turn
-module _ (l : tie.At-loop invariant_loop decreases_loop) where
+module _ (l : tie.At-loop-i invariant_loop decreases_loop) where
   abbrev from : tie.Start invariant_loop decreases_loop
   from = start l.before
 
   abbrev put : Put from.args.body.now from.args.heads.now from.args.mark from.args.key from.args.fks.now
-      from.args.from l.loop.body l.loop.heads l.loop.i (Extent from.args.last)
-  put = l.loop.inv.0
+      from.args.from l.loop-i.body l.loop-i.heads l.loop-i.i (Extent from.args.last)
+  put = l.loop-i.invariant.0
 
-  abbrev ends : PageEnds (body_ground l.loop.body from.args.mark) from.args.last l.loop.at l.loop.prev l.loop.total
-  ends = l.loop.inv.1
+  abbrev ends : PageEnds (body_ground l.loop-i.body from.args.mark) from.args.last l.loop-i.at l.loop-i.prev l.loop-i.total
+  ends = l.loop-i.invariant.1
 
   -- what is known of the page
-  sound : SoundTail (space l.loop.body from.args.mark []) from.args.last ends.tail
-  sound = tail_sound (space l.loop.body from.args.mark []) from.args.last ends.tail ends.sound
+  sound : SoundTail (space l.loop-i.body from.args.mark []) from.args.last ends.tail
+  sound = tail_sound (space l.loop-i.body from.args.mark []) from.args.last ends.tail ends.sound
 
   -- the stream ends within the page
-  within : 24 + l.loop.at ≤ page_size
+  within : 24 + l.loop-i.at ≤ page_size
   within = omega (arith, sound.taken_fits, ends.taken_is)
 
   -- the mark lies within the body
-  marked : from.args.mark ≤ length l.loop.body
+  marked : from.args.mark ≤ length l.loop-i.body
   marked = omega (arith, from.pre.within, put.body_long)
 
   -- the numbers so far went into the page, and the next doesn't
-  reached : Stopped l.loop.body l.loop.heads from.args.mark from.args.key from.args.fks.now l.loop.i
+  reached : Stopped l.loop-i.body l.loop-i.heads from.args.mark from.args.key from.args.fks.now l.loop-i.i
       → InPlace from.args.body.now from.args.heads.now from.args.mark from.args.key from.args.fks.now
-      from.args.from l.loop.body l.loop.heads l.loop.i
+      from.args.from l.loop-i.body l.loop-i.heads l.loop-i.i
   reached stop = record {
     later = put.later;
     within = put.within;
@@ -86,34 +86,34 @@ module _ (l : tie.At-loop invariant_loop decreases_loop) where
   }
 
 -- the page takes the next number
-module _ (e : tie.Else1 invariant_loop decreases_loop) where
-  abbrev loc : tie.At-loop invariant_loop decreases_loop
+module _ (e : tie.Else-len-eq0 invariant_loop decreases_loop) where
+  abbrev loc : tie.At-loop-i invariant_loop decreases_loop
   loc = e.before.before.before.before
 
   abbrev n : ℕ
-  n = get_or (from loc).args.fks.now loc.loop.i 0
+  n = get_or (from loc).args.fks.now loc.loop-i.i 0
 
-  takes : PageTakes n loc.loop.prev loc.loop.at e.before.form-in-page.result
-  takes = e.before.form-in-page.ensures.0 (omega (arith, e.if1.left))
+  takes : PageTakes n loc.loop-i.prev loc.loop-i.at e.before.form_in_page-len.result
+  takes = e.before.form_in_page-len.ensures.0 (omega (arith, e.if-len-eq0.left))
 
-tail-end-requires : tie.Need-tail-end-requires invariant_loop decreases_loop
-tail-end-requires c κs = search rules
+tail_end-end-requires : tie.Need-tail_end-end-requires invariant_loop decreases_loop
+tail_end-end-requires c κs = search rules
 
-enum-known-end : tie.Need-enum-known-end invariant_loop decreases_loop
-enum-known-end c = search rules
+enum_known-end : tie.Need-enum_known-end invariant_loop decreases_loop
+enum_known-end c = search rules
 
-enum_told : tie.Need-enum-told invariant_loop decreases_loop
-enum_told c = search rules
+enum_told-1 : tie.Need-enum_told-1 invariant_loop decreases_loop
+enum_told-1 c = search rules
 
-same_length : tie.Need-same-length invariant_loop decreases_loop
-same_length c = search rules
+shape_of-body-in_default : tie.Need-shape_of-body-in_default invariant_loop decreases_loop
+shape_of-body-in_default c = search rules
 
-returns : tie.Need-returns invariant_loop decreases_loop
-returns c =
+returns-in_default : tie.Need-returns-in_default invariant_loop decreases_loop
+returns-in_default c =
     let t = c.before.before in
     let s = t.before.before.before.before.before in
     let a = s.args in
-    let is = tail_untold a.body.now a.mark [] a.last t.tail-end.ensures (ap tail_answer c.enum_told.given.1) in
+    let is = tail_untold a.body.now a.mark [] a.last t.tail_end-end.ensures (ap tail_answer c.enum_told-1.given.1) in
     record {
       unsound = λ free counts.
           unsound_page (book_of a.body.now a.heads.now a.mark free counts) a.key a.last s.requires.stands is.1;
@@ -121,49 +121,49 @@ returns c =
       heads_kept = refl;
     }
 
-loop-holds : tie.Need-loop-init invariant_loop decreases_loop
-loop-holds c =
+loop-i-init : tie.Need-loop-i-init invariant_loop decreases_loop
+loop-i-init c =
     let s = start c in
     let a = s.args in (
       put_none a.body.now a.heads.now a.mark a.key a.fks.now a.from (Extent a.last) s.pre.left s.pre.stands,
       begins c,
     )
 
-mul-n : tie.Need-overflow-mul-n invariant_loop decreases_loop
-mul-n c = search rules
+offset_bounds-fks-i : tie.Need-offset_bounds-fks-i invariant_loop decreases_loop
+offset_bounds-fks-i c = search rules
 
-shared-slice-read-n : tie.Need-shared-slice-read-n invariant_loop decreases_loop
-shared-slice-read-n c = search rules
+bounds-fks-i : tie.Need-bounds-fks-i invariant_loop decreases_loop
+bounds-fks-i c = search rules
 
-form-in-page-requires : tie.Need-form-in-page-requires invariant_loop decreases_loop
-form-in-page-requires c κs = within c.before.before
+form_in_page-len-requires : tie.Need-form_in_page-len-requires invariant_loop decreases_loop
+form_in_page-len-requires c κs = within c.before.before
 
-same-length-2 : tie.Need-same-length-2 invariant_loop decreases_loop
-same-length-2 c = omega (arith, (put c.before.before.before.before).body_long)
+shape_of-body-then-len-eq0 : tie.Need-shape_of-body-then-len-eq0 invariant_loop decreases_loop
+shape_of-body-then-len-eq0 c = omega (arith, (put c.before.before.before.before).body_long)
 
-same-length-3 : tie.Need-same-length-3 invariant_loop decreases_loop
-same-length-3 c = omega (arith, (put c.before.before.before.before).heads_long)
+shape_of-heads-then-len-eq0 : tie.Need-shape_of-heads-then-len-eq0 invariant_loop decreases_loop
+shape_of-heads-then-len-eq0 c = omega (arith, (put c.before.before.before.before).heads_long)
 
-returns-2 : tie.Need-returns-2 invariant_loop decreases_loop
-returns-2 c =
+returns-then-len-eq0 : tie.Need-returns-then-len-eq0 invariant_loop decreases_loop
+returns-then-len-eq0 c =
     let f = c.before in
     let l = f.before.before.before in
     reached l
     (λ more free shape.
-    page_not (body_ground l.loop.body (from l).args.mark) (get_or (from l).args.fks.now l.loop.i 0)
-    (get_or l.loop.heads (from l).args.key 0) (from l).args.last (put l).stands (ends l)
-    (f.form-in-page.ensures.1 c.if1.true))
+    page_not (body_ground l.loop-i.body (from l).args.mark) (get_or (from l).args.fks.now l.loop-i.i 0)
+    (get_or l.loop-i.heads (from l).args.key 0) (from l).args.last (put l).stands (ends l)
+    (f.form_in_page-len.ensures.1 c.if-len-eq0.true))
 
-sub-grow-page : tie.Need-overflow-sub-grow-page invariant_loop decreases_loop
-sub-grow-page c = omega (arith, (takes c.before).above)
+overflow_sub-n : tie.Need-overflow_sub-n invariant_loop decreases_loop
+overflow_sub-n c = omega (arith, (takes c.before).above)
 
-grow-page-requires : tie.Need-grow-page-requires invariant_loop decreases_loop
-grow-page-requires c κs =
+grow_page-requires : tie.Need-grow_page-requires invariant_loop decreases_loop
+grow_page-requires c κs =
     let e = c.before in
     let l = loc e in
     let known = sound l in
     record {
-      inside = page_inside (body_ground l.loop.body (from l).args.mark) (from l).args.last known.stands l.loop.body (marked l);
+      inside = page_inside (body_ground l.loop-i.body (from l).args.mark) (from l).args.last known.stands l.loop-i.body (marked l);
       grows = record {
         version_is = eqb-true _ 2 known.names;
         few = omega (arith, known.few);
@@ -171,74 +171,74 @@ grow-page-requires c κs =
       };
     }
 
-put-head-requires : tie.Need-put-head-requires invariant_loop decreases_loop
-put-head-requires c κs =
+put_head-requires : tie.Need-put_head-requires invariant_loop decreases_loop
+put_head-requires c κs =
     let l = loc c.before.before.before.before.before in
     omega (arith, (from l).pre.keyed, (put l).heads_long)
 
-add_at : tie.Need-overflow-add-at invariant_loop decreases_loop
-add_at c = omega (arith, (takes c.before.before.before.before.before.before.before.before).room)
+overflow_add-at : tie.Need-overflow_add-at invariant_loop decreases_loop
+overflow_add-at c = omega (arith, (takes c.before.before.before.before.before.before.before.before).room)
 
-total-with-requires : tie.Need-total-with-requires invariant_loop decreases_loop
-total-with-requires c κs = search rules
+total_with-total-requires : tie.Need-total_with-total-requires invariant_loop decreases_loop
+total_with-total-requires c κs = search rules
 
-add-i : tie.Need-overflow-add-i invariant_loop decreases_loop
-add-i c = search rules
+overflow_add-i : tie.Need-overflow_add-i invariant_loop decreases_loop
+overflow_add-i c = search rules
 
-loop-less : tie.Need-loop-smaller invariant_loop decreases_loop
-loop-less c = search rules
+loop-i-smaller : tie.Need-loop-i-smaller invariant_loop decreases_loop
+loop-i-smaller c = search rules
 
-loop-again : tie.Need-loop-preserved invariant_loop decreases_loop
-loop-again c =
+loop-i-preserved : tie.Need-loop-i-preserved invariant_loop decreases_loop
+loop-i-preserved c =
     let h = c.before.before.before in
     let g = h.before.before.before.before in
     let e = g.before.before in
     let l = loc e in
     let s = from l in
-    let long : length g.grow-page.new.0 ≡ length l.loop.body = search rules in
-    let more : l.loop.i < length s.args.fks.now = e.before.before.before.loop-test.true in
-    let (p, w) = put_page s.args.last s.pre.keyed s.pre.within (put l) (ends l) more (takes e) g.grow-page.new.0
-    h.put-head.new.0 g.grow-page.ensures long h.put-head.ensures in (
+    let long : length g.grow_page.new.0 ≡ length l.loop-i.body = search rules in
+    let more : l.loop-i.i < length s.args.fks.now = e.before.before.before.loop-i-test.true in
+    let (p, w) = put_page s.args.last s.pre.keyed s.pre.within (put l) (ends l) more (takes e) g.grow_page.new.0
+    h.put_head.new.0 g.grow_page.ensures long h.put_head.ensures in (
       p,
-      subst (λ (t : ℕ). PageEnds (body_ground g.grow-page.new.0 s.args.mark) s.args.last
-          (l.loop.at + e.before.form-in-page.result) (n e) t) (sym c.total-with.ensures) w,
+      subst (λ (t : ℕ). PageEnds (body_ground g.grow_page.new.0 s.args.mark) s.args.last
+          (l.loop-i.at + e.before.form_in_page-len.result) (n e) t) (sym c.total_with-total.ensures) w,
     )
 
-same-length-4 : tie.Need-same-length-4 invariant_loop decreases_loop
-same-length-4 c = omega (arith, (put c.before).body_long)
+shape_of-body : tie.Need-shape_of-body invariant_loop decreases_loop
+shape_of-body c = omega (arith, (put c.before).body_long)
 
-same-length-5 : tie.Need-same-length-5 invariant_loop decreases_loop
-same-length-5 c = omega (arith, (put c.before).heads_long)
+shape_of-heads : tie.Need-shape_of-heads invariant_loop decreases_loop
+shape_of-heads c = omega (arith, (put c.before).heads_long)
 
-returns-3 : tie.Need-returns-3 invariant_loop decreases_loop
-returns-3 c = reached c.before (λ more. absurd (omega (arith, more, c.loop-test.false)))
+returns : tie.Need-returns invariant_loop decreases_loop
+returns c = reached c.before (λ more. absurd (omega (arith, more, c.loop-i-test.false)))
 
-pub extend-page-spec : {M : Type 1} → statement M
-extend-page-spec =
+pub extend_page_spec : {M : Type 1} → statement M
+extend_page_spec =
     tie.close
     (tie.spec
     invariant_loop
     decreases_loop
-    tail-end-requires
-    enum-known-end
-    enum_told
-    same_length
-    returns
-    loop-holds
-    mul-n
-    shared-slice-read-n
-    form-in-page-requires
-    same-length-2
-    same-length-3
-    returns-2
-    sub-grow-page
-    grow-page-requires
-    put-head-requires
-    add_at
-    total-with-requires
-    add-i
-    loop-less
-    loop-again
-    same-length-4
-    same-length-5
-    returns-3)
+    tail_end-end-requires
+    enum_known-end
+    enum_told-1
+    shape_of-body-in_default
+    returns-in_default
+    loop-i-init
+    offset_bounds-fks-i
+    bounds-fks-i
+    form_in_page-len-requires
+    shape_of-body-then-len-eq0
+    shape_of-heads-then-len-eq0
+    returns-then-len-eq0
+    overflow_sub-n
+    grow_page-requires
+    put_head-requires
+    overflow_add-at
+    total_with-total-requires
+    overflow_add-i
+    loop-i-smaller
+    loop-i-preserved
+    shape_of-body
+    shape_of-heads
+    returns)

@@ -23,17 +23,17 @@ module _ (s : tie.Start) where
   b = book_of s.args.body.now s.args.heads.now s.args.mark.now s.args.free.now s.args.counts.now
 
 -- the shape is kept
-module _ (c : tie.Else1) where
+module _ (c : tie.Else-shape_broken) where
   abbrev start : tie.Start
   start = c.before.before.before.before.before.before
 
   -- the definition's test says so too
   shape : shape_broken (b start).space (length (b start).heads) ≡ false
-  shape = sym (c.before.shape-broken.ensures start.args.free.now) ∙ c.if1.false
+  shape = sym (c.before.shape_broken.ensures start.args.free.now) ∙ c.if-shape_broken.false
 
 -- the number was judged by itself, and passed
-module _ (c : tie.Else2) where
-  abbrev kept : tie.Else1
+module _ (c : tie.Else-refusal-ne0) where
+  abbrev kept : tie.Else-shape_broken
   kept = c.before.before
 
   abbrev from : tie.Start
@@ -41,7 +41,7 @@ module _ (c : tie.Else2) where
 
   -- the number is above 0 and below 2^62
   fine : (0 < from.args.n) × (from.args.n < 2 ^ 62)
-  fine = judged_yes from.args.n c.before.judge-number.result c.before.judge-number.ensures c.if2.false
+  fine = judged_yes from.args.n c.before.judge_number-refusal.result c.before.judge_number-refusal.ensures c.if-refusal-ne0.false
 
   -- so an append where the key stands may begin
   known : ToAppend from.args.desk (b from) from.args.key from.args.n
@@ -54,93 +54,93 @@ module _ (c : tie.Else2) where
   }
 
 -- the head word told a place
-module _ (h : tie.After-head) where
-  abbrev unpacked : tie.After-unpack8
+module _ (h : tie.In-Head-2) where
+  abbrev unpacked : tie.After-unpack8-head
   unpacked = h.before.before
 
-  abbrev judged : tie.Else2
+  abbrev judged : tie.Else-refusal-ne0
   judged = unpacked.before.before
 
-  stands : unpack_head (get_or (b (from judged)).heads (from judged).args.key 0) ≡ accepted h.head.given.0.0
-  stands = sym unpacked.unpack8.ensures ∙ ap unpack_answer h.head.given.1
+  stands : unpack_head (get_or (b (from judged)).heads (from judged).args.key 0) ≡ accepted h.head-1.given.0.0
+  stands = sym unpacked.unpack8-head.ensures ∙ ap unpack_answer h.head-1.given.1
 
-shape-broken-requires : tie.Need-shape-broken-requires
-shape-broken-requires c κs = search rules
+shape_broken-requires : tie.Need-shape_broken-requires
+shape_broken-requires c κs = search rules
 
-same_length : tie.Need-same-length
-same_length c = search rules
+shape_of-body-then-shape_broken : tie.Need-shape_of-body-then-shape_broken
+shape_of-body-then-shape_broken c = search rules
 
-returns : tie.Need-returns
-returns c =
+returns-then-shape_broken : tie.Need-returns-then-shape_broken
+returns-then-shape_broken c =
     let t = c.before in
     let s = t.before.before.before.before.before in
     let a = s.args in
-    does_none (b s) (append_shape a.desk (b s) a.key a.n (sym (t.shape-broken.ensures a.free.now) ∙ c.if1.true))
+    does_none (b s) (append_shape a.desk (b s) a.key a.n (sym (t.shape_broken.ensures a.free.now) ∙ c.if-shape_broken.true))
 
-judge-number-requires : tie.Need-judge-number-requires
-judge-number-requires c κs = search rules
+judge_number-refusal-requires : tie.Need-judge_number-refusal-requires
+judge_number-refusal-requires c κs = search rules
 
-same-length-2 : tie.Need-same-length-2
-same-length-2 c = search rules
+shape_of-body-then-refusal-ne0 : tie.Need-shape_of-body-then-refusal-ne0
+shape_of-body-then-refusal-ne0 c = search rules
 
-returns-2 : tie.Need-returns-2
-returns-2 c =
+returns-then-refusal-ne0 : tie.Need-returns-then-refusal-ne0
+returns-then-refusal-ne0 c =
     let j = c.before in
     let e = j.before in
     let s = start e in
     let a = s.args in
-    let is = judged_no (offered_number true 0 a.n (accepted 0)) j.judge-number.result j.judge-number.ensures
-    c.if2.true in
+    let is = judged_no (offered_number true 0 a.n (accepted 0)) j.judge_number-refusal.result j.judge_number-refusal.ensures
+    c.if-refusal-ne0.true in
     does_none (b s) (append_number a.desk (b s) a.key a.n (shape e) s.pre.known s.pre.keyed 0 is)
 
-mul-unpack8 : tie.Need-overflow-mul-unpack8
-mul-unpack8 c = search rules
+offset_bounds-heads-at : tie.Need-offset_bounds-heads-at
+offset_bounds-heads-at c = search rules
 
-slice-read-unpack8 : tie.Need-slice-read-unpack8
-slice-read-unpack8 c = search rules
+bounds-heads-at : tie.Need-bounds-heads-at
+bounds-heads-at c = search rules
 
-unpack8-requires : tie.Need-unpack8-requires
-unpack8-requires c κs = search rules
+unpack8-head-requires : tie.Need-unpack8-head-requires
+unpack8-head-requires c κs = search rules
 
-enum-known-head : tie.Need-enum-known-head
-enum-known-head c = search rules
+enum_known-head : tie.Need-enum_known-head
+enum_known-head c = search rules
 
-enum_told : tie.Need-enum-told
-enum_told c = search rules
+enum_told-1 : tie.Need-enum_told-1
+enum_told-1 c = search rules
 
-same-length-3 : tie.Need-same-length-3
-same-length-3 c = search rules
+shape_of-body-in_default : tie.Need-shape_of-body-in_default
+shape_of-body-in_default c = search rules
 
-returns-3 : tie.Need-returns-3
-returns-3 c =
+returns-in_default : tie.Need-returns-in_default
+returns-in_default c =
     let u = c.before.before in
     let e = u.before.before in
     let s = from e in
     let a = s.args in
     let p = s.pre in
-    let is = sym u.unpack8.ensures ∙ ap unpack_answer c.enum_told.given.1 in
+    let is = sym u.unpack8-head.ensures ∙ ap unpack_answer c.enum_told-1.given.1 in
     does_none (b s)
     (append_unsound a.desk (b s) a.key a.n (shape (kept e)) p.known p.keyed (fine e).0 (fine e).1 is)
 
-append-past-at-requires : tie.Need-append-past-at-requires
-append-past-at-requires c κs =
+append_past_at-requires : tie.Need-append_past_at-requires
+append_past_at-requires c κs =
     let h = c.before.before.before.before.before.before in
     let e = judged h in
     let s = from e in
     record {
       to_append = known e;
       stands = stands h;
-      not_taken = s.pre.not_taken s.args.free.now (shape (kept e)) h.head.given.0.0 (stands h);
+      not_taken = s.pre.not_taken s.args.free.now (shape (kept e)) h.head-1.given.0.0 (stands h);
     }
 
-same-length-4 : tie.Need-same-length-4
-same-length-4 c = search rules
+shape_of-body : tie.Need-shape_of-body
+shape_of-body c = search rules
 
-same-length-5 : tie.Need-same-length-5
-same-length-5 c = search rules
+shape_of-heads : tie.Need-shape_of-heads
+shape_of-heads c = search rules
 
-returns-4 : tie.Need-returns-4
-returns-4 c =
+returns : tie.Need-returns
+returns c =
     let f = c.before.before.before.before in
     let h = f.before.before.before.before.before.before.before in
     let e = judged h in
@@ -149,26 +149,26 @@ returns-4 c =
     let p = s.pre in
     does_as
     (append_at_lem a.desk (b s) a.key a.n (shape (kept e)) p.known p.keyed (fine e).0 (fine e).1 (stands h))
-    f.append-past-at.ensures
+    f.append_past_at.ensures
 
-pub append-past-spec : {M : Type 1} → statement M
-append-past-spec =
+pub append_past_spec : {M : Type 1} → statement M
+append_past_spec =
     tie.close
     (tie.spec
-    shape-broken-requires
-    same_length
-    returns
-    judge-number-requires
-    same-length-2
-    returns-2
-    mul-unpack8
-    slice-read-unpack8
-    unpack8-requires
-    enum-known-head
-    enum_told
-    same-length-3
-    returns-3
-    append-past-at-requires
-    same-length-4
-    same-length-5
-    returns-4)
+    shape_broken-requires
+    shape_of-body-then-shape_broken
+    returns-then-shape_broken
+    judge_number-refusal-requires
+    shape_of-body-then-refusal-ne0
+    returns-then-refusal-ne0
+    offset_bounds-heads-at
+    bounds-heads-at
+    unpack8-head-requires
+    enum_known-head
+    enum_told-1
+    shape_of-body-in_default
+    returns-in_default
+    append_past_at-requires
+    shape_of-body
+    shape_of-heads
+    returns)

@@ -30,106 +30,106 @@ module _ (s : tie.Start) where
     not_taken = subst (NotTaken (seen b.space) s.args.n) e s.pre.not_taken;
   }
 
-enum_told : tie.Need-enum-told
-enum_told c = search rules
+enum_told-1 : tie.Need-enum_told-1
+enum_told-1 c = search rules
 
-accept-append-requires : tie.Need-accept-append-requires
-accept-append-requires c κs = search rules
+accept_append-requires : tie.Need-accept_append-requires
+accept_append-requires c κs = search rules
 
-enum-known-place : tie.Need-enum-known-place
-enum-known-place c = search rules
+enum_known-place : tie.Need-enum_known-place
+enum_known-place c = search rules
 
-append-inline-requires : tie.Need-append-inline-requires
-append-inline-requires c κs =
+append_inline-requires : tie.Need-append_inline-requires
+append_inline-requires c κs =
     let p = c.before.before.before.before.before.before in
     let s = p.before.before.before.before in
     record {
       to_append = s.requires.to_append;
-      some = inline_above (word_of s.args.key (b s)) _ _ (s.requires.stands ∙ ap accepted p.place.given.1);
+      some = inline_above (word_of s.args.key (b s)) _ _ (s.requires.stands ∙ ap accepted p.place-1.given.1);
     }
 
-enum-known-place-2 : tie.Need-enum-known-place-2
-enum-known-place-2 c = search rules
+enum_known-place-in-Slab-1 : tie.Need-enum_known-place-in-Slab-1
+enum_known-place-in-Slab-1 c = search rules
 
-slab-past-requires : tie.Need-slab-past-requires
-slab-past-requires c κs =
+slab_past-requires : tie.Need-slab_past-requires
+slab_past-requires c κs =
     let p = c.before.before.before.before.before.before in
-    past p.before.before.before.before p.place2.given.1
+    past p.before.before.before.before p.place-in-Slab-1.given.1
 
-enum-known-place-3 : tie.Need-enum-known-place-3
-enum-known-place-3 c = search rules
+enum_known-place-in-Extent-1 : tie.Need-enum_known-place-in-Extent-1
+enum_known-place-in-Extent-1 c = search rules
 
-page-past-requires : tie.Need-page-past-requires
-page-past-requires c κs =
+page_past-requires : tie.Need-page_past-requires
+page_past-requires c κs =
     let p = c.before.before.before.before.before.before in
-    past p.before.before.before.before p.place3.given.1
+    past p.before.before.before.before p.place-in-Extent-1.given.1
 
-same_length : tie.Need-same-length
-same_length c = search rules
+shape_of-heads-in-Empty : tie.Need-shape_of-heads-in-Empty
+shape_of-heads-in-Empty c = search rules
 
-returns : tie.Need-returns
-returns c =
+returns-in-Empty : tie.Need-returns-in-Empty
+returns-in-Empty c =
     let t = c.before.before.before.before in
     let s = t.before.before.before.before in
-    does_as (placed s t.enum_told.given.1 ∙ at_empty s.args.desk (b s) s.args.key s.args.n)
-    (c.before.before.accept-append.ensures (b s) (b s).space (b s).counts refl)
+    does_as (placed s t.enum_told-1.given.1 ∙ at_empty s.args.desk (b s) s.args.key s.args.n)
+    (c.before.before.accept_append.ensures (b s) (b s).space (b s).counts refl)
 
-same-length-2 : tie.Need-same-length-2
-same-length-2 c = search rules
+shape_of-body-in-Inline : tie.Need-shape_of-body-in-Inline
+shape_of-body-in-Inline c = search rules
 
-same-length-3 : tie.Need-same-length-3
-same-length-3 c = search rules
+shape_of-heads-in-Inline : tie.Need-shape_of-heads-in-Inline
+shape_of-heads-in-Inline c = search rules
 
-returns-2 : tie.Need-returns-2
-returns-2 c =
+returns-in-Inline : tie.Need-returns-in-Inline
+returns-in-Inline c =
     let f = c.before.before.before.before in
     let p = f.before.before.before.before.before.before.before in
-    does_as (placed p.before.before.before.before p.place.given.1) (f.append-inline.ensures _)
+    does_as (placed p.before.before.before.before p.place-1.given.1) (f.append_inline.ensures _)
 
-same-length-4 : tie.Need-same-length-4
-same-length-4 c = search rules
+shape_of-body-in-Slab : tie.Need-shape_of-body-in-Slab
+shape_of-body-in-Slab c = search rules
 
-same-length-5 : tie.Need-same-length-5
-same-length-5 c = search rules
+shape_of-heads-in-Slab : tie.Need-shape_of-heads-in-Slab
+shape_of-heads-in-Slab c = search rules
 
-returns-3 : tie.Need-returns-3
-returns-3 c =
+returns-in-Slab : tie.Need-returns-in-Slab
+returns-in-Slab c =
     let f = c.before.before.before.before in
     let p = f.before.before.before.before.before.before.before in
-    does_as (placed p.before.before.before.before p.place2.given.1) f.slab-past.ensures
+    does_as (placed p.before.before.before.before p.place-in-Slab-1.given.1) f.slab_past.ensures
 
-same-length-6 : tie.Need-same-length-6
-same-length-6 c = search rules
+shape_of-body-in-Extent : tie.Need-shape_of-body-in-Extent
+shape_of-body-in-Extent c = search rules
 
-same-length-7 : tie.Need-same-length-7
-same-length-7 c = search rules
+shape_of-heads-in-Extent : tie.Need-shape_of-heads-in-Extent
+shape_of-heads-in-Extent c = search rules
 
-returns-4 : tie.Need-returns-4
-returns-4 c =
+returns-in-Extent : tie.Need-returns-in-Extent
+returns-in-Extent c =
     let f = c.before.before.before.before in
     let p = f.before.before.before.before.before.before.before in
-    does_as (placed p.before.before.before.before p.place3.given.1) f.page-past.ensures
+    does_as (placed p.before.before.before.before p.place-in-Extent-1.given.1) f.page_past.ensures
 
-pub append-past-at-spec : {M : Type 1} → statement M
-append-past-at-spec =
+pub append_past_at_spec : {M : Type 1} → statement M
+append_past_at_spec =
     tie.close
     (tie.spec
-    enum_told
-    accept-append-requires
-    enum-known-place
-    append-inline-requires
-    enum-known-place-2
-    slab-past-requires
-    enum-known-place-3
-    page-past-requires
-    same_length
-    returns
-    same-length-2
-    same-length-3
-    returns-2
-    same-length-4
-    same-length-5
-    returns-3
-    same-length-6
-    same-length-7
-    returns-4)
+    enum_told-1
+    accept_append-requires
+    enum_known-place
+    append_inline-requires
+    enum_known-place-in-Slab-1
+    slab_past-requires
+    enum_known-place-in-Extent-1
+    page_past-requires
+    shape_of-heads-in-Empty
+    returns-in-Empty
+    shape_of-body-in-Inline
+    shape_of-heads-in-Inline
+    returns-in-Inline
+    shape_of-body-in-Slab
+    shape_of-heads-in-Slab
+    returns-in-Slab
+    shape_of-body-in-Extent
+    shape_of-heads-in-Extent
+    returns-in-Extent)

@@ -15,83 +15,83 @@ module _ (s : tie.Start) where
   b = book_of s.args.body.now s.args.heads.now s.args.mark.now s.args.free.now s.args.counts.now
 
 -- the last page's end was told
-module _ (k : tie.After-known-told) where
-  abbrev ended : tie.After-tail-end
+module _ (k : tie.In-Tail) where
+  abbrev ended : tie.After-tail_end-end
   ended = k.before.before.before
 
   abbrev start : tie.Start
   start = ended.before.before.before.before.before
 
   -- the page is sound, and ends so
-  told : TailTold (b start).space start.args.last k.before.end.given.0.0 k.before.end.given.0.1.0
-      k.before.end.given.0.1.1.0 k.before.end.given.0.1.1.1.0
+  told : TailTold (b start).space start.args.last k.before.end-1.given.0.0 k.before.end-1.given.0.1.0
+      k.before.end-1.given.0.1.1.0 k.before.end-1.given.0.1.1.1.0
   told =
       let a = start.args in
-      tail_told a.body.now a.mark.now a.free.now a.last ended.tail-end.ensures
-      (ap tail_answer k.before.end.given.1)
+      tail_told a.body.now a.mark.now a.free.now a.last ended.tail_end-end.ensures
+      (ap tail_answer k.before.end-1.given.1)
 
-tail-end-requires : tie.Need-tail-end-requires
-tail-end-requires c κs = search rules
+tail_end-end-requires : tie.Need-tail_end-end-requires
+tail_end-end-requires c κs = search rules
 
-enum-known-end : tie.Need-enum-known-end
-enum-known-end c = search rules
+enum_known-end : tie.Need-enum_known-end
+enum_known-end c = search rules
 
-enum_told : tie.Need-enum-told
-enum_told c = search rules
+enum_told-1 : tie.Need-enum_told-1
+enum_told-1 c = search rules
 
-same_length : tie.Need-same-length
-same_length c = search rules
+shape_of-body-in_default : tie.Need-shape_of-body-in_default
+shape_of-body-in_default c = search rules
 
-returns : tie.Need-returns
-returns c =
+returns-in_default : tie.Need-returns-in_default
+returns-in_default c =
     let t = c.before.before in
     let s = t.before.before.before.before.before in
     let a = s.args in
-    let is = tail_untold a.body.now a.mark.now a.free.now a.last t.tail-end.ensures
-    (ap tail_answer c.enum_told.given.1) in
+    let is = tail_untold a.body.now a.mark.now a.free.now a.last t.tail_end-end.ensures
+    (ap tail_answer c.enum_told-1.given.1) in
     does_none (b s) (page_unsound a.desk (b s) a.key a.n a.last is.1)
 
-same-length-2 : tie.Need-same-length-2
-same-length-2 c = search rules
+shape_of-body-then-n-fk : tie.Need-shape_of-body-then-n-fk
+shape_of-body-then-n-fk c = search rules
 
-returns-2 : tie.Need-returns-2
-returns-2 c =
+returns-then-n-fk : tie.Need-returns-then-n-fk
+returns-then-n-fk c =
     let k = c.before in
     let a = (start k).args in
-    does_none (b (start k)) (page_low a.desk (b (start k)) a.key a.n a.last (told k) c.if1.true)
+    does_none (b (start k)) (page_low a.desk (b (start k)) a.key a.n a.last (told k) c.if-n-fk.true)
 
-grow-chain-requires : tie.Need-grow-chain-requires
-grow-chain-requires c κs =
+grow_chain-requires : tie.Need-grow_chain-requires
+grow_chain-requires c κs =
     let e = c.before.before.before.before.before in
     let k = e.before in
     let s = start k in
     let a = s.args in
     let t = told k in
-    let full = s.pre.not_taken t.tail t.sound (omega (arith, t.fk_is, e.if1.false)) s.pre.to_append.low in
-    page_full a.desk (b s) a.key a.n a.last t (omega (arith, e.if1.false)) s.pre.to_append
+    let full = s.pre.not_taken t.tail t.sound (omega (arith, t.fk_is, e.if-n-fk.false)) s.pre.to_append.low in
+    page_full a.desk (b s) a.key a.n a.last t (omega (arith, e.if-n-fk.false)) s.pre.to_append
     (rw (t.taken_is, t.fk_is) at full)
 
-same-length-3 : tie.Need-same-length-3
-same-length-3 c = search rules
+shape_of-body : tie.Need-shape_of-body
+shape_of-body c = search rules
 
-same-length-4 : tie.Need-same-length-4
-same-length-4 c = search rules
+shape_of-heads : tie.Need-shape_of-heads
+shape_of-heads c = search rules
 
-returns-3 : tie.Need-returns-3
-returns-3 c = c.before.before.before.before.grow-chain.ensures
+returns : tie.Need-returns
+returns c = c.before.before.before.before.grow_chain.ensures
 
-pub page-past-spec : {M : Type 1} → statement M
-page-past-spec =
+pub page_past_spec : {M : Type 1} → statement M
+page_past_spec =
     tie.close
     (tie.spec
-    tail-end-requires
-    enum-known-end
-    enum_told
-    same_length
-    returns
-    same-length-2
-    returns-2
-    grow-chain-requires
-    same-length-3
-    same-length-4
-    returns-3)
+    tail_end-end-requires
+    enum_known-end
+    enum_told-1
+    shape_of-body-in_default
+    returns-in_default
+    shape_of-body-then-n-fk
+    returns-then-n-fk
+    grow_chain-requires
+    shape_of-body
+    shape_of-heads
+    returns)

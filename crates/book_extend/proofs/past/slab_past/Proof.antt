@@ -15,83 +15,83 @@ module _ (s : tie.Start) where
   b = book_of s.args.body.now s.args.heads.now s.args.mark.now s.args.free.now s.args.counts.now
 
 -- the slab's end was told
-module _ (k : tie.After-known-told) where
-  abbrev ended : tie.After-slab-end
+module _ (k : tie.In-Scanned) where
+  abbrev ended : tie.After-slab_end-end
   ended = k.before.before.before
 
   abbrev start : tie.Start
   start = ended.before.before.before.before.before
 
   -- the slab is sound, and ends so
-  told : SlabTold (b start).space start.args.class start.args.used start.args.off k.before.end.given.0.0
-      k.before.end.given.0.1.0
+  told : SlabTold (b start).space start.args.class start.args.used start.args.off k.before.end-1.given.0.0
+      k.before.end-1.given.0.1.0
   told =
       let a = start.args in
       slab_told a.body.now a.mark.now a.free.now a.class a.used a.off
-      ended.slab-end.ensures (ap scan_answer k.before.end.given.1)
+      ended.slab_end-end.ensures (ap scan_answer k.before.end-1.given.1)
 
-slab-end-requires : tie.Need-slab-end-requires
-slab-end-requires c κs = search rules
+slab_end-end-requires : tie.Need-slab_end-end-requires
+slab_end-end-requires c κs = search rules
 
-enum-known-end : tie.Need-enum-known-end
-enum-known-end c = search rules
+enum_known-end : tie.Need-enum_known-end
+enum_known-end c = search rules
 
-enum_told : tie.Need-enum-told
-enum_told c = search rules
+enum_told-1 : tie.Need-enum_told-1
+enum_told-1 c = search rules
 
-same_length : tie.Need-same-length
-same_length c = search rules
+shape_of-body-in_default : tie.Need-shape_of-body-in_default
+shape_of-body-in_default c = search rules
 
-returns : tie.Need-returns
-returns c =
+returns-in_default : tie.Need-returns-in_default
+returns-in_default c =
     let t = c.before.before in
     let s = t.before.before.before.before.before in
     let a = s.args in
-    let is = slab_untold a.body.now a.mark.now a.free.now a.class a.used a.off t.slab-end.ensures
-    (ap scan_answer c.enum_told.given.1) in
+    let is = slab_untold a.body.now a.mark.now a.free.now a.class a.used a.off t.slab_end-end.ensures
+    (ap scan_answer c.enum_told-1.given.1) in
     does_none (b s) (slab_unsound a.desk (b s) a.key a.n a.class a.used a.off is.1)
 
-same-length-2 : tie.Need-same-length-2
-same-length-2 c = search rules
+shape_of-body-then-n-last : tie.Need-shape_of-body-then-n-last
+shape_of-body-then-n-last c = search rules
 
-returns-2 : tie.Need-returns-2
-returns-2 c =
+returns-then-n-last : tie.Need-returns-then-n-last
+returns-then-n-last c =
     let k = c.before in
     let a = (start k).args in
-    does_none (b (start k)) (slab_low a.desk (b (start k)) a.key a.n a.class a.used a.off (told k) c.if1.true)
+    does_none (b (start k)) (slab_low a.desk (b (start k)) a.key a.n a.class a.used a.off (told k) c.if-n-last.true)
 
-move-slab-requires : tie.Need-move-slab-requires
-move-slab-requires c κs =
+move_slab-requires : tie.Need-move_slab-requires
+move_slab-requires c κs =
     let e = c.before.before.before.before.before in
     let k = e.before in
     let s = start k in
     let a = s.args in
     let t = told k in
-    let leaves = s.pre.not_taken t.scan t.sound (omega (arith, t.last_is, e.if1.false)) s.pre.to_append.low in
-    slab_leaves a.desk (b s) a.key a.n a.class a.used a.off t (omega (arith, e.if1.false)) s.pre.to_append
+    let leaves = s.pre.not_taken t.scan t.sound (omega (arith, t.last_is, e.if-n-last.false)) s.pre.to_append.low in
+    slab_leaves a.desk (b s) a.key a.n a.class a.used a.off t (omega (arith, e.if-n-last.false)) s.pre.to_append
     (rw (t.taken_is, t.last_is) at leaves)
 
-same-length-3 : tie.Need-same-length-3
-same-length-3 c = search rules
+shape_of-body : tie.Need-shape_of-body
+shape_of-body c = search rules
 
-same-length-4 : tie.Need-same-length-4
-same-length-4 c = search rules
+shape_of-heads : tie.Need-shape_of-heads
+shape_of-heads c = search rules
 
-returns-3 : tie.Need-returns-3
-returns-3 c = c.before.before.before.before.move-slab.ensures
+returns : tie.Need-returns
+returns c = c.before.before.before.before.move_slab.ensures
 
-pub slab-past-spec : {M : Type 1} → statement M
-slab-past-spec =
+pub slab_past_spec : {M : Type 1} → statement M
+slab_past_spec =
     tie.close
     (tie.spec
-    slab-end-requires
-    enum-known-end
-    enum_told
-    same_length
-    returns
-    same-length-2
-    returns-2
-    move-slab-requires
-    same-length-3
-    same-length-4
-    returns-3)
+    slab_end-end-requires
+    enum_known-end
+    enum_told-1
+    shape_of-body-in_default
+    returns-in_default
+    shape_of-body-then-n-last
+    returns-then-n-last
+    move_slab-requires
+    shape_of-body
+    shape_of-heads
+    returns)

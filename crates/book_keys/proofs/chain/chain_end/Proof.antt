@@ -19,7 +19,7 @@ use Rattle.book_keys.proofs.chain.chain_end.Statement.{statement}
 use Rattle.book_keys.proofs.chain.chain_end.Tie as tie
 
 -- the last page's header was read
-module _ (c : tie.After-header) where
+module _ (c : tie.In-Header-2) where
   abbrev at : tie.Start
   at = c.before.before.before.before
 
@@ -33,23 +33,23 @@ module _ (c : tie.After-header) where
   last = at.args.last
 
   abbrev head : Last
-  head = record { first = c.header.given.0.0; creates = c.header.given.0.1.0 }
+  head = record { first = c.header-1.given.0.0; creates = c.header-1.given.0.1.0 }
 
   is : last_at s last ≡ accepted head
-  is = was_sound _ (sym c.before.before.last-page.ensures ∙ ap last_page_answer c.header.given.1)
+  is = was_sound _ (sym c.before.before.last_page-header.ensures ∙ ap last_page_answer c.header-1.given.1)
 
 -- the chain was walked
-module _ (c : tie.After-walked) where
-  abbrev told : tie.After-header
+module _ (c : tie.In-Pages-2) where
+  abbrev told : tie.In-Header-2
   told = c.before.before.before.before
 
   abbrev end : Walked
-  end = record { length = c.walked.given.0.0; pages = c.walked.given.0.1.0; padded = c.walked.given.0.1.1.0 }
+  end = record { length = c.walked-1.given.0.0; pages = c.walked-1.given.0.1.0; padded = c.walked-1.given.0.1.1.0 }
 
   chain : (w : Chain) × (soundly (walk ((s told).mark / page_size) (s told) (last told) 0 (head told).first) ≡ accepted w)
       × (walked_from (asked told) 0 0 0 w ≡ end)
   chain =
-      was_accepted (walked_from (asked told) 0 0 0) _ (sym c.before.before.walk-pages.ensures ∙ ap walk_answer c.walked.given.1)
+      was_accepted (walked_from (asked told) 0 0 0) _ (sym c.before.before.walk_pages-walked.ensures ∙ ap walk_answer c.walked-1.given.1)
 
   walks : walk ((s told).mark / page_size) (s told) (last told) 0 (head told).first ≡ accepted chain.0
   walks = was_sound _ chain.1
@@ -63,50 +63,50 @@ module _ (c : tie.After-walked) where
   padded_is : if_asked (asked told) chain.0.padded ≡ end.padded
   padded_is = let e : 0 + if_asked (asked told) chain.0.padded ≡ end.padded = ap (λ (x : Walked). x.padded) chain.2 in omega arith
 
-last-page-requires : tie.Need-last-page-requires
-last-page-requires c κs = search rules
+last_page-header-requires : tie.Need-last_page-header-requires
+last_page-header-requires c κs = search rules
 
-enum-known-header : tie.Need-enum-known-header
-enum-known-header c = search rules
+enum_known-header : tie.Need-enum_known-header
+enum_known-header c = search rules
 
-enum_told : tie.Need-enum-told
-enum_told c = search rules
+enum_told-1 : tie.Need-enum_told-1
+enum_told-1 c = search rules
 
-returns : tie.Need-returns
-returns c =
+returns-in_default : tie.Need-returns-in_default
+returns-in_default c =
     let a = c.before.before.before.before.args in
-    let bad = was_unsound _ (sym c.before.before.last-page.ensures ∙ ap last_page_answer c.enum_told.given.1) in
+    let bad = was_unsound _ (sym c.before.before.last_page-header.ensures ∙ ap last_page_answer c.enum_told-1.given.1) in
     turned_back (chain_end_of a.counted) _ (chain_no (body_ground a.body.now a.mark) a.last bad.1)
 
-walk-pages-requires : tie.Need-walk-pages-requires
-walk-pages-requires c κs = search rules
+walk_pages-walked-requires : tie.Need-walk_pages-walked-requires
+walk_pages-walked-requires c κs = search rules
 
-enum-known-walked : tie.Need-enum-known-walked
-enum-known-walked c = search rules
+enum_known-walked : tie.Need-enum_known-walked
+enum_known-walked c = search rules
 
-enum-told-2 : tie.Need-enum-told-2
-enum-told-2 c = search rules
+enum_told-in_default-walked : tie.Need-enum_told-in_default-walked
+enum_told-in_default-walked c = search rules
 
-returns-2 : tie.Need-returns-2
-returns-2 c =
+returns-in_default-walked : tie.Need-returns-in_default-walked
+returns-in_default-walked c =
     let d = c.before.before.before.before in
-    let stop = was_refused (walked_from (asked d) 0 0 0) _ (sym c.before.before.walk-pages.ensures
-    ∙ ap walk_answer c.enum-told2.given.1) in
+    let stop = was_refused (walked_from (asked d) 0 0 0) _ (sym c.before.before.walk_pages-walked.ensures
+    ∙ ap walk_answer c.enum_told-in_default-walked-1.given.1) in
     turned_back (chain_end_of (asked d)) _ (chain_unwalked (s d) (last d) (head d) (is d) (was_unsound _ stop).1)
 
-total-good-requires : tie.Need-total-good-requires
-total-good-requires c κs = search rules
+total_good-requires : tie.Need-total_good-requires
+total_good-requires c κs = search rules
 
-returns-3 : tie.Need-returns-3
-returns-3 c =
+returns-then-not-total_good : tie.Need-returns-then-not-total_good
+returns-then-not-total_good c =
     let w = c.before.before.before in
     let d = told w in
     turned_back (chain_end_of (asked d)) _
     (chain_other (s d) (last d) (head d) (is d) (chain w).0 (walks w)
-    (ap (total_good (head d).creates) (length_is w) ∙ sym c.before.total_good.ensures ∙ not-true _ c.if1.true))
+    (ap (total_good (head d).creates) (length_is w) ∙ sym c.before.total_good.ensures ∙ not-true _ c.if-not-total_good.true))
 
-returns-4 : tie.Need-returns-4
-returns-4 c =
+returns : tie.Need-returns
+returns c =
     let w = c.before.before.before in
     let d = told w in
     let k = (chain w).0 in
@@ -120,20 +120,20 @@ returns-4 c =
     (sym (padded_is w))
     ∙ let_through (chain_end_of (asked d)) _
     (chain_yes (s d) (last d) (head d) (is d) k (walks w)
-    (ap (total_good (head d).creates) (length_is w) ∙ sym c.before.total_good.ensures ∙ not-false _ c.if1.false))
+    (ap (total_good (head d).creates) (length_is w) ∙ sym c.before.total_good.ensures ∙ not-false _ c.if-not-total_good.false))
 
-pub chain-end-spec : {M : Type 1} → statement M
-chain-end-spec =
+pub chain_end_spec : {M : Type 1} → statement M
+chain_end_spec =
     tie.close
     (tie.spec
-    last-page-requires
-    enum-known-header
-    enum_told
-    returns
-    walk-pages-requires
-    enum-known-walked
-    enum-told-2
-    returns-2
-    total-good-requires
-    returns-3
-    returns-4)
+    last_page-header-requires
+    enum_known-header
+    enum_told-1
+    returns-in_default
+    walk_pages-walked-requires
+    enum_known-walked
+    enum_told-in_default-walked
+    returns-in_default-walked
+    total_good-requires
+    returns-then-not-total_good
+    returns)

@@ -23,18 +23,18 @@ use Rattle.book_keys.proofs.LawsFill.{fill_turn}
 use Rattle.book_keys.proofs.chain.chain_into.Statement.{statement}
 use Rattle.book_keys.proofs.chain.chain_into.Tie as tie
 
-abbrev invariant_loop : tie.invariant_loop
+abbrev invariant_loop : tie.invariant-loop-pages
 invariant_loop body mark first last out₀ most off₀ at₀ pages₀ out off at pages =
     (pages ≤ most) × (at ≤ length out) × (length out ≡ length out₀)
     × ((w : Chain) → walk most (body_ground body mark) last 0 first ≡ accepted w → length w.numbers ≤ length out₀
     → Filling (most - pages) (body_ground body mark) last out₀ w out at off)
 
-abbrev decreases_loop : tie.decreases_loop
+abbrev decreases_loop : tie.decreases-loop-pages
 decreases_loop body mark first last out₀ most off₀ at₀ pages₀ out off at pages = most - pages
 
 -- a turn: a page was read into the part from here on
-module _ (c : tie.After-page-into invariant_loop decreases_loop) where
-  abbrev turn : tie.In-loop invariant_loop decreases_loop
+module _ (c : tie.After-page_into-got invariant_loop decreases_loop) where
+  abbrev turn : tie.In-loop-pages invariant_loop decreases_loop
   turn = c.before.before
 
   abbrev start : tie.Start invariant_loop decreases_loop
@@ -47,66 +47,66 @@ module _ (c : tie.After-page-into invariant_loop decreases_loop) where
   most = start.args.mark / page_size
 
   abbrev out : List ℕ
-  out = turn.before.loop.out
+  out = turn.before.loop-pages.out
 
   abbrev at : ℕ
-  at = turn.before.loop.at
+  at = turn.before.loop-pages.at
 
   abbrev off : ℕ
-  off = turn.before.loop.off
+  off = turn.before.loop-pages.off
 
   abbrev part : List ℕ
-  part = c.page-into.new.1.1.1.0
+  part = c.page_into-got.new.1.1.1.0
 
   room : length (lent out at) ≡ length out - at
-  room = length_lent out at turn.before.loop.inv.1
+  room = length_lent out at turn.before.loop-pages.invariant.1
 
   size : length part ≡ length (lent out at)
   size = search rules
 
   -- what the page tells and leaves where it reads
   reads : (p : Scan) → page_into (length out - at) s off ≡ accepted p
-      → (fill_answer c.page-into.result ≡ accepted (fill_told (page_at s off) p)) × (part ≡ overwrite (lent out at) 0 p.numbers)
-  reads p e = c.page-into.ensures.reads p (ap (λ (n : ℕ). page_into n s off) room ∙ e)
+      → (fill_answer c.page_into-got.result ≡ accepted (fill_told (page_at s off) p)) × (part ≡ overwrite (lent out at) 0 p.numbers)
+  reads p e = c.page_into-got.ensures.reads p (ap (λ (n : ℕ). page_into n s off) room ∙ e)
 
-  left : most - turn.before.loop.pages ≡ suc (most - (turn.before.loop.pages + 1))
-  left = omega (arith, turn.loop-test.taken)
+  left : most - turn.before.loop-pages.pages ≡ suc (most - (turn.before.loop-pages.pages + 1))
+  left = omega (arith, turn.loop-pages-test.taken)
 
   -- the chain that the whole walk gives, and what is left of it
   filling : (w : Chain) → walk most s start.args.last 0 start.args.first ≡ accepted w
       → length w.numbers ≤ length start.args.out.now
-      → Filling (suc (most - (turn.before.loop.pages + 1))) s start.args.last start.args.out.now w out at off
+      → Filling (suc (most - (turn.before.loop-pages.pages + 1))) s start.args.last start.args.out.now w out at off
   filling w e h =
-      subst (λ (k : ℕ). Filling k s start.args.last start.args.out.now w out at off) left (turn.before.loop.inv.3 w e h)
+      subst (λ (k : ℕ). Filling k s start.args.last start.args.out.now w out at off) left (turn.before.loop-pages.invariant.3 w e h)
 
 -- a page was read
-module _ (c : tie.After-got invariant_loop decreases_loop) where
-  abbrev back : tie.After-page-into invariant_loop decreases_loop
+module _ (c : tie.In-Filled-2 invariant_loop decreases_loop) where
+  abbrev back : tie.After-page_into-got invariant_loop decreases_loop
   back = c.before.before.before.before
 
   abbrev told : FillTold
-  told = record { count = c.got.given.0.0; next = c.got.given.0.1.0 }
+  told = record { count = c.got-1.given.0.0; next = c.got-1.given.0.1.0 }
 
-  fits : at back + c.got.given.0.0 ≤ length (out back)
+  fits : at back + c.got-1.given.0.0 ≤ length (out back)
   fits = omega (
     arith,
-    back.page-into.ensures.within told (ap fill_answer c.got.given.1),
+    back.page_into-got.ensures.within told (ap fill_answer c.got-1.given.1),
     room back,
-    (turn back).before.loop.inv.1,
+    (turn back).before.loop-pages.invariant.1,
   )
 
   -- what is left of the chain that the whole walk gives begins with that page
   module _ (w : Chain) (e : walk (most back) (s back) (start back).args.last 0 (start back).args.first ≡ accepted w)
       (h : length w.numbers ≤ length (start back).args.out.now) where
     abbrev next : Turn (s back) (start back).args.last (start back).args.out.now w (out back) (at back) (off back)
-        (most back - ((turn back).before.loop.pages + 1)) (filling back w e h)
+        (most back - ((turn back).before.loop-pages.pages + 1)) (filling back w e h)
     next = fill_turn (s back) (start back).args.last (start back).args.out.now w (out back) (at back) (off back)
-        (most back - ((turn back).before.loop.pages + 1)) (filling back w e h)
+        (most back - ((turn back).before.loop-pages.pages + 1)) (filling back w e h)
 
     told_is : (length next.page.numbers ≡ told.count) × (next_off (page_at (s back) (off back)) ≡ told.next)
     told_is =
         read_told (page_at (s back) (off back)) next.page told
-        (accepted_inj (sym (reads back next.page next.read).0 ∙ ap fill_answer c.got.given.1))
+        (accepted_inj (sym (reads back next.page next.read).0 ∙ ap fill_answer c.got-1.given.1))
 
     wrote : put_back (out back) (at back) (part back) ≡ overwrite (out back) (at back) next.page.numbers
     wrote =
@@ -114,8 +114,8 @@ module _ (c : tie.After-got invariant_loop decreases_loop) where
         let room = fits in
         page_written (out back) (at back) (part back) next.page (omega arith) (reads back next.page next.read).1
 
-loop-holds : tie.Need-loop-init invariant_loop decreases_loop
-loop-holds c =
+loop-pages-init : tie.Need-loop-pages-init invariant_loop decreases_loop
+loop-pages-init c =
     let a = c.before.before.args in (
       omega arith,
       zero-le,
@@ -124,108 +124,108 @@ loop-holds c =
           a.first e h,
     )
 
-mul-page-into : tie.Need-overflow-mul-page-into invariant_loop decreases_loop
-mul-page-into c = search rules
+offset_bounds-out-at : tie.Need-offset_bounds-out-at invariant_loop decreases_loop
+offset_bounds-out-at c = search rules
 
-sub-page-into : tie.Need-overflow-sub-page-into invariant_loop decreases_loop
-sub-page-into c = omega arith
+slice_bounds-page_into-count : tie.Need-slice_bounds-page_into-count invariant_loop decreases_loop
+slice_bounds-page_into-count c = omega arith
 
-part-page-into-start : tie.Need-slice-bounds-page-into-start invariant_loop decreases_loop
-part-page-into-start c = omega arith
+slice_bounds-page_into-start : tie.Need-slice_bounds-page_into-start invariant_loop decreases_loop
+slice_bounds-page_into-start c = omega arith
 
-part-page-into-end : tie.Need-slice-bounds-page-into-end invariant_loop decreases_loop
-part-page-into-end c = search rules
+slice_bounds-page_into-end : tie.Need-slice_bounds-page_into-end invariant_loop decreases_loop
+slice_bounds-page_into-end c = search rules
 
-page-into-requires : tie.Need-page-into-requires invariant_loop decreases_loop
-page-into-requires c κs = search rules
+page_into-got-requires : tie.Need-page_into-got-requires invariant_loop decreases_loop
+page_into-got-requires c κs = search rules
 
-enum-known-got : tie.Need-enum-known-got invariant_loop decreases_loop
-enum-known-got c = search rules
+enum_known-got : tie.Need-enum_known-got invariant_loop decreases_loop
+enum_known-got c = search rules
 
-enum_told : tie.Need-enum-told invariant_loop decreases_loop
-enum_told c = search rules
+enum_told-1 : tie.Need-enum_told-1 invariant_loop decreases_loop
+enum_told-1 c = search rules
 
-same_length : tie.Need-same-length invariant_loop decreases_loop
-same_length c = search rules
+shape_of-out-in_default : tie.Need-shape_of-out-in_default invariant_loop decreases_loop
+shape_of-out-in_default c = search rules
 
-returns : tie.Need-returns invariant_loop decreases_loop
-returns c k e first h =
+returns-in_default : tie.Need-returns-in_default invariant_loop decreases_loop
+returns-in_default c k e first h =
     let b = c.before.before.before.before in
-    let stop = ap fill_answer c.enum_told.given.1 in
+    let stop = ap fill_answer c.enum_told-1.given.1 in
     let walks = chain_walks (s b) (start b).args.last (start b).args.first k (was_sound _ e) first in
     let next =
-    fill_turn (s b) (start b).args.last (start b).args.out.now k (out b) (at b) (off b) (most b - ((turn b).before.loop.pages + 1))
+    fill_turn (s b) (start b).args.last (start b).args.out.now k (out b) (at b) (off b) (most b - ((turn b).before.loop-pages.pages + 1))
     (filling b k walks h) in
     absurd (refused≢accepted (sym stop ∙ (reads b next.page next.read).0))
 
-same-length-2 : tie.Need-same-length-2 invariant_loop decreases_loop
-same-length-2 c = search rules
+shape_of-out-then-off-last : tie.Need-shape_of-out-then-off-last invariant_loop decreases_loop
+shape_of-out-then-off-last c = search rules
 
-returns-2 : tie.Need-returns-2 invariant_loop decreases_loop
-returns-2 c k e first h =
+returns-then-off-last : tie.Need-returns-then-off-last invariant_loop decreases_loop
+returns-then-off-last c k e first h =
     let d = c.before.before in
     let b = back d in
     let walks = chain_walks (s b) (start b).args.last (start b).args.first k (was_sound _ e) first in
-    wrote d k walks h ∙ (next d k walks h).ends c.if1.true
+    wrote d k walks h ∙ (next d k walks h).ends c.if-off-last.true
 
-add_at : tie.Need-overflow-add-at invariant_loop decreases_loop
-add_at c = let h = fits c.before.before in omega arith
+overflow_add-at : tie.Need-overflow_add-at invariant_loop decreases_loop
+overflow_add-at c = let h = fits c.before.before in omega arith
 
-add-pages : tie.Need-overflow-add-pages invariant_loop decreases_loop
-add-pages c = omega arith
+overflow_add-pages : tie.Need-overflow_add-pages invariant_loop decreases_loop
+overflow_add-pages c = omega arith
 
-loop-less : tie.Need-loop-smaller invariant_loop decreases_loop
-loop-less c = omega arith
+loop-pages-smaller : tie.Need-loop-pages-smaller invariant_loop decreases_loop
+loop-pages-smaller c = omega arith
 
-loop-again : tie.Need-loop-preserved invariant_loop decreases_loop
-loop-again c =
+loop-pages-preserved : tie.Need-loop-pages-preserved invariant_loop decreases_loop
+loop-pages-preserved c =
     let d = c.before.before in
     let b = back d in
     let h = fits d in
     let length-same : length (put_back (out b) (at b) (part b)) ≡ length (out b) =
-    length_put (out b) (at b) (part b) (turn b).before.loop.inv.1 (size b) in (
+    length_put (out b) (at b) (part b) (turn b).before.loop-pages.invariant.1 (size b) in (
       omega arith,
       subst (λ (n : ℕ). at b + (told d).count ≤ n) (sym length-same) h,
-      length-same ∙ (turn b).before.loop.inv.2,
+      length-same ∙ (turn b).before.loop-pages.invariant.2,
       λ w e k.
-          filling_as (most b - ((turn b).before.loop.pages + 1)) (s b) (start b).args.last (start b).args.out.now w
-          (sym (wrote d w e k)) (ap (λ (n : ℕ). at b + n) (told_is d w e k).0) (told_is d w e k).1 ((next d w e k).goes c.if1.false),
+          filling_as (most b - ((turn b).before.loop-pages.pages + 1)) (s b) (start b).args.last (start b).args.out.now w
+          (sym (wrote d w e k)) (ap (λ (n : ℕ). at b + n) (told_is d w e k).0) (told_is d w e k).1 ((next d w e k).goes c.if-off-last.false),
     )
 
-same-length-3 : tie.Need-same-length-3 invariant_loop decreases_loop
-same-length-3 c = search rules
+shape_of-out : tie.Need-shape_of-out invariant_loop decreases_loop
+shape_of-out c = search rules
 
-returns-3 : tie.Need-returns-3 invariant_loop decreases_loop
-returns-3 c k e first h =
+returns : tie.Need-returns invariant_loop decreases_loop
+returns c k e first h =
     let a = c.before.before.before.before.args in
-    let l = c.before.loop in
+    let l = c.before.loop-pages in
     let space = body_ground a.body.now a.mark in
     let walks = chain_walks space a.last a.first k (was_sound _ e) first in
-    let none : a.mark / page_size - l.pages ≡ 0 = omega (arith, c.loop-test.false) in
+    let none : a.mark / page_size - l.pages ≡ 0 = omega (arith, c.loop-pages-test.false) in
     absurd (fill_some space a.last a.out.now k l.out l.at l.off
     (subst (λ (n : ℕ). Filling n space a.last a.out.now k l.out l.at l.off) none (l.invariant.3 k walks h)))
 
-pub chain-into-spec : {M : Type 1} → statement M
-chain-into-spec =
+pub chain_into_spec : {M : Type 1} → statement M
+chain_into_spec =
     tie.close
     (tie.spec
     invariant_loop
     decreases_loop
-    loop-holds
-    mul-page-into
-    sub-page-into
-    part-page-into-start
-    part-page-into-end
-    page-into-requires
-    enum-known-got
-    enum_told
-    same_length
-    returns
-    same-length-2
-    returns-2
-    add_at
-    add-pages
-    loop-less
-    loop-again
-    same-length-3
-    returns-3)
+    loop-pages-init
+    offset_bounds-out-at
+    slice_bounds-page_into-count
+    slice_bounds-page_into-start
+    slice_bounds-page_into-end
+    page_into-got-requires
+    enum_known-got
+    enum_told-1
+    shape_of-out-in_default
+    returns-in_default
+    shape_of-out-then-off-last
+    returns-then-off-last
+    overflow_add-at
+    overflow_add-pages
+    loop-pages-smaller
+    loop-pages-preserved
+    shape_of-out
+    returns)

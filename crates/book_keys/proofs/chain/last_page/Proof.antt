@@ -18,7 +18,7 @@ use Rattle.book_keys.proofs.chain.last_page.Statement.{statement}
 use Rattle.book_keys.proofs.chain.last_page.Tie as tie
 
 -- the page stands
-module _ (c : tie.Else1) where
+module _ (c : tie.Else-not-is_page) where
   abbrev at : tie.Start
   at = c.before.before.before
 
@@ -29,51 +29,51 @@ module _ (c : tie.Else1) where
   off = at.args.last
 
   stands : is_block page_class off s.mark ≡ true
-  stands = sym c.before.is-page.ensures ∙ not-false _ c.if1.false
+  stands = sym c.before.is_page.ensures ∙ not-false _ c.if-not-is_page.false
 
   inside : off + page_size ≤ length at.args.body.now
   inside = page_inside s off stands at.args.body.now at.pre
 
-is-page-requires : tie.Need-is-page-requires
-is-page-requires c κs = search rules
+is_page-requires : tie.Need-is_page-requires
+is_page-requires c κs = search rules
+
+returns-then-not-is_page : tie.Need-returns-then-not-is_page
+returns-then-not-is_page c =
+    let a = c.before.before.before.args in
+    sym (soundly_no _ (last_off (body_ground a.body.now a.mark) a.last
+    (sym c.before.is_page.ensures ∙ not-true _ c.if-not-is_page.true)))
+
+overflow_add-start : tie.Need-overflow_add-start
+overflow_add-start c = let h = inside c in omega arith
+
+slice_bounds-read_last-count : tie.Need-slice_bounds-read_last-count
+slice_bounds-read_last-count c = search rules
+
+slice_bounds-read_last-start : tie.Need-slice_bounds-read_last-start
+slice_bounds-read_last-start c = search rules
+
+slice_bounds-read_last-end : tie.Need-slice_bounds-read_last-end
+slice_bounds-read_last-end c = inside c
+
+read_last-requires : tie.Need-read_last-requires
+read_last-requires c κs = search rules
 
 returns : tie.Need-returns
 returns c =
-    let a = c.before.before.before.args in
-    sym (soundly_no _ (last_off (body_ground a.body.now a.mark) a.last
-    (sym c.before.is-page.ensures ∙ not-true _ c.if1.true)))
-
-add-read-last : tie.Need-overflow-add-read-last
-add-read-last c = let h = inside c in omega arith
-
-sub-read-last : tie.Need-overflow-sub-read-last
-sub-read-last c = search rules
-
-part-read-last-start : tie.Need-slice-bounds-read-last-start
-part-read-last-start c = search rules
-
-part-read-last-end : tie.Need-slice-bounds-read-last-end
-part-read-last-end c = inside c
-
-read-last-requires : tie.Need-read-last-requires
-read-last-requires c κs = search rules
-
-returns-2 : tie.Need-returns-2
-returns-2 c =
     let d = c.before.before in
     c.read_last.ensures
     ∙ ap (λ (bs : List ℕ). soundly (last_read bs)) (span (at d).args.body.now (off d) page_size page_size refl)
     ∙ ap soundly (sym (last_on (s d) (off d) (stands d)))
 
-pub last-page-spec : {M : Type 1} → statement M
-last-page-spec =
+pub last_page_spec : {M : Type 1} → statement M
+last_page_spec =
     tie.close
     (tie.spec
-    is-page-requires
-    returns
-    add-read-last
-    sub-read-last
-    part-read-last-start
-    part-read-last-end
-    read-last-requires
-    returns-2)
+    is_page-requires
+    returns-then-not-is_page
+    overflow_add-start
+    slice_bounds-read_last-count
+    slice_bounds-read_last-start
+    slice_bounds-read_last-end
+    read_last-requires
+    returns)

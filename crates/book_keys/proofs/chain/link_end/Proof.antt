@@ -19,7 +19,7 @@ use Rattle.book_keys.proofs.chain.link_end.Statement.{statement}
 use Rattle.book_keys.proofs.chain.link_end.Tie as tie
 
 -- the page stands
-module _ (c : tie.Else1) where
+module _ (c : tie.Else-not-is_page) where
   abbrev at : tie.Start
   at = c.before.before.before
 
@@ -30,38 +30,38 @@ module _ (c : tie.Else1) where
   off = at.args.off
 
   stands : is_block page_class off s.mark ≡ true
-  stands = sym c.before.is-page.ensures ∙ not-false _ c.if1.false
+  stands = sym c.before.is_page.ensures ∙ not-false _ c.if-not-is_page.false
 
   inside : off + page_size ≤ length at.args.body.now
   inside = page_inside s off stands at.args.body.now at.pre
 
-is-page-requires : tie.Need-is-page-requires
-is-page-requires c κs = search rules
+is_page-requires : tie.Need-is_page-requires
+is_page-requires c κs = search rules
 
-returns : tie.Need-returns
-returns c =
+returns-then-not-is_page : tie.Need-returns-then-not-is_page
+returns-then-not-is_page c =
     let a = c.before.before.before.args in
     let s = body_ground a.body.now a.mark in
     turned_back (link_end_of a.counted (page_at s a.off)) _
-    (link_off s a.off a.prev (sym c.before.is-page.ensures ∙ not-true _ c.if1.true))
+    (link_off s a.off a.prev (sym c.before.is_page.ensures ∙ not-true _ c.if-not-is_page.true))
 
-add-read-link : tie.Need-overflow-add-read-link
-add-read-link c = let h = inside c in omega arith
+overflow_add-start : tie.Need-overflow_add-start
+overflow_add-start c = let h = inside c in omega arith
 
-sub-read-link : tie.Need-overflow-sub-read-link
-sub-read-link c = search rules
+slice_bounds-read_link-count : tie.Need-slice_bounds-read_link-count
+slice_bounds-read_link-count c = search rules
 
-part-read-link-start : tie.Need-slice-bounds-read-link-start
-part-read-link-start c = search rules
+slice_bounds-read_link-start : tie.Need-slice_bounds-read_link-start
+slice_bounds-read_link-start c = search rules
 
-part-read-link-end : tie.Need-slice-bounds-read-link-end
-part-read-link-end c = inside c
+slice_bounds-read_link-end : tie.Need-slice_bounds-read_link-end
+slice_bounds-read_link-end c = inside c
 
-read-link-requires : tie.Need-read-link-requires
-read-link-requires c κs = search rules
+read_link-requires : tie.Need-read_link-requires
+read_link-requires c κs = search rules
 
-returns-2 : tie.Need-returns-2
-returns-2 c =
+returns : tie.Need-returns
+returns c =
     let d = c.before.before in
     let prev = (at d).args.prev in
     c.read_link.ensures
@@ -69,15 +69,15 @@ returns-2 c =
     (span (at d).args.body.now (off d) page_size page_size refl)
     ∙ ap (λ a. answered (link_end_of (at d).args.counted (page_at (s d) (off d))) (soundly a)) (sym (link_on (s d) (off d) (stands d) prev))
 
-pub link-end-spec : {M : Type 1} → statement M
-link-end-spec =
+pub link_end_spec : {M : Type 1} → statement M
+link_end_spec =
     tie.close
     (tie.spec
-    is-page-requires
-    returns
-    add-read-link
-    sub-read-link
-    part-read-link-start
-    part-read-link-end
-    read-link-requires
-    returns-2)
+    is_page-requires
+    returns-then-not-is_page
+    overflow_add-start
+    slice_bounds-read_link-count
+    slice_bounds-read_link-start
+    slice_bounds-read_link-end
+    read_link-requires
+    returns)

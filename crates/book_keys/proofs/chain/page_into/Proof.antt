@@ -18,7 +18,7 @@ use Rattle.book_keys.proofs.chain.page_into.Statement.{statement}
 use Rattle.book_keys.proofs.chain.page_into.Tie as tie
 
 -- the page stands
-module _ (c : tie.Else1) where
+module _ (c : tie.Else-not-is_page) where
   abbrev at : tie.Start
   at = c.before.before.before.before
 
@@ -29,58 +29,58 @@ module _ (c : tie.Else1) where
   off = at.args.off
 
   stands : is_block page_class off s.mark ≡ true
-  stands = sym c.before.is-page.ensures ∙ not-false _ c.if1.false
+  stands = sym c.before.is_page.ensures ∙ not-false _ c.if-not-is_page.false
 
   inside : off + page_size ≤ length at.args.body.now
   inside = page_inside s off stands at.args.body.now at.pre
 
-is-page-requires : tie.Need-is-page-requires
-is-page-requires c κs = search rules
+is_page-requires : tie.Need-is_page-requires
+is_page-requires c κs = search rules
 
-returns : tie.Need-returns
-returns c =
+returns-then-not-is_page : tie.Need-returns-then-not-is_page
+returns-then-not-is_page c =
     let a = c.before.before.before.before.args in
     let s = body_ground a.body.now a.mark in
     page_nowhere (page_at s a.off) a.out.now _
-    (into_off (length a.out.now) s a.off (sym c.before.is-page.ensures ∙ not-true _ c.if1.true))
+    (into_off (length a.out.now) s a.off (sym c.before.is_page.ensures ∙ not-true _ c.if-not-is_page.true))
 
-add-fill-page : tie.Need-overflow-add-fill-page
-add-fill-page c = let h = inside c in omega arith
+overflow_add-start : tie.Need-overflow_add-start
+overflow_add-start c = let h = inside c in omega arith
 
-sub-fill-page : tie.Need-overflow-sub-fill-page
-sub-fill-page c = search rules
+slice_bounds-fill_page-count : tie.Need-slice_bounds-fill_page-count
+slice_bounds-fill_page-count c = search rules
 
-part-fill-page-start : tie.Need-slice-bounds-fill-page-start
-part-fill-page-start c = search rules
+slice_bounds-fill_page-start : tie.Need-slice_bounds-fill_page-start
+slice_bounds-fill_page-start c = search rules
 
-part-fill-page-end : tie.Need-slice-bounds-fill-page-end
-part-fill-page-end c = inside c
+slice_bounds-fill_page-end : tie.Need-slice_bounds-fill_page-end
+slice_bounds-fill_page-end c = inside c
 
-fill-page-requires : tie.Need-fill-page-requires
-fill-page-requires c κs = let h = inside c.before.before in simp (length-take, length-drop) (omega arith)
+fill_page-requires : tie.Need-fill_page-requires
+fill_page-requires c κs = let h = inside c.before.before in simp (length-take, length-drop) (omega arith)
 
-same_length : tie.Need-same-length
-same_length c = search rules
+shape_of-out : tie.Need-shape_of-out
+shape_of-out c = search rules
 
-returns-2 : tie.Need-returns-2
-returns-2 c =
+returns : tie.Need-returns
+returns c =
     let d = c.before.before.before.before.before in
     let out = (at d).args.out.now in
     let room = length out in
     let bytes = span (at d).args.body.now (off d) page_size page_size refl in
     filled_as _ out _ bytes (ap (λ (bs : List ℕ). page_entries room bs) bytes ∙ sym (into_on room (s d) (off d) (stands d)))
-    c.before.before.fill-page.ensures
+    c.before.before.fill_page.ensures
 
-pub page-into-spec : {M : Type 1} → statement M
-page-into-spec =
+pub page_into_spec : {M : Type 1} → statement M
+page_into_spec =
     tie.close
     (tie.spec
-    is-page-requires
-    returns
-    add-fill-page
-    sub-fill-page
-    part-fill-page-start
-    part-fill-page-end
-    fill-page-requires
-    same_length
-    returns-2)
+    is_page-requires
+    returns-then-not-is_page
+    overflow_add-start
+    slice_bounds-fill_page-count
+    slice_bounds-fill_page-start
+    slice_bounds-fill_page-end
+    fill_page-requires
+    shape_of-out
+    returns)

@@ -12,51 +12,51 @@ use Rattle.book_keys.proofs.LawsWalk.{asked_yes, asked_no}
 use Rattle.book_keys.proofs.chain.page_padded.Statement.{statement}
 use Rattle.book_keys.proofs.chain.page_padded.Tie as tie
 
-stream-off-requires : tie.Need-stream-off-requires
-stream-off-requires c κs = search rules
+stream_off-start-requires : tie.Need-stream_off-start-requires
+stream_off-start-requires c κs = search rules
 
-get-u16-requires : tie.Need-get-u16-requires
-get-u16-requires c κs = search rules
+get_u16-count-requires : tie.Need-get_u16-count-requires
+get_u16-count-requires c κs = search rules
 
-cast-count : tie.Need-overflow-cast-count
-cast-count c = search rules
+overflow_cast-count : tie.Need-overflow_cast-count
+overflow_cast-count c = search rules
 
-sub-count-padded : tie.Need-overflow-sub-count-padded
-sub-count-padded c = search rules
+slice_bounds-count_padded-count : tie.Need-slice_bounds-count_padded-count
+slice_bounds-count_padded-count c = search rules
 
-part-count-padded-start : tie.Need-slice-bounds-count-padded-start
-part-count-padded-start c = search rules
+slice_bounds-count_padded-start : tie.Need-slice_bounds-count_padded-start
+slice_bounds-count_padded-start c = search rules
 
-part-count-padded-end : tie.Need-slice-bounds-count-padded-end
-part-count-padded-end c = search rules
+slice_bounds-count_padded-end : tie.Need-slice_bounds-count_padded-end
+slice_bounds-count_padded-end c = search rules
 
-count-padded-requires : tie.Need-count-padded-requires
-count-padded-requires c κs = search rules
+count_padded-requires : tie.Need-count_padded-requires
+count_padded-requires c κs = search rules
+
+returns-then-not-counted : tie.Need-returns-then-not-counted
+returns-then-not-counted c = λ s scans taken. sym (asked_no c.before.before.args.counted _ (not-true _ c.if-not-counted.true))
 
 returns : tie.Need-returns
-returns c = λ s scans taken. sym (asked_no c.before.before.args.counted _ (not-true _ c.if1.true))
-
-returns-2 : tie.Need-returns-2
-returns-2 c = λ s scans taken.
+returns c = λ s scans taken.
     let g = c.before.before in
     let o = g.before in
     let at = o.before.before.before in
     let page = at.args.page.now in
-    page_counted page _ g.get-u16.result at.args.taken _ (g.get-u16.ensures ∙ field_read page 1 2)
-    (part_to_end page o.stream-off.result ∙ ap (λ (i : ℕ). drop i page) o.stream-off.ensures)
-    c.count-padded.ensures s scans taken
-    ∙ sym (asked_yes at.args.counted _ (not-false _ o.before.if1.false))
+    page_counted page _ g.get_u16-count.result at.args.taken _ (g.get_u16-count.ensures ∙ field_read page 1 2)
+    (part_to_end page o.stream_off-start.result ∙ ap (λ (i : ℕ). drop i page) o.stream_off-start.ensures)
+    c.count_padded.ensures s scans taken
+    ∙ sym (asked_yes at.args.counted _ (not-false _ o.before.if-not-counted.false))
 
-pub page-padded-spec : {M : Type 1} → statement M
-page-padded-spec =
+pub page_padded_spec : {M : Type 1} → statement M
+page_padded_spec =
     tie.close
     (tie.spec
-    returns
-    stream-off-requires
-    get-u16-requires
-    cast-count
-    sub-count-padded
-    part-count-padded-start
-    part-count-padded-end
-    count-padded-requires
-    returns-2)
+    returns-then-not-counted
+    stream_off-start-requires
+    get_u16-count-requires
+    overflow_cast-count
+    slice_bounds-count_padded-count
+    slice_bounds-count_padded-start
+    slice_bounds-count_padded-end
+    count_padded-requires
+    returns)

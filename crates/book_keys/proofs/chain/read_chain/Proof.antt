@@ -17,7 +17,7 @@ use Rattle.book_keys.proofs.chain.read_chain.Statement.{statement}
 use Rattle.book_keys.proofs.chain.read_chain.Tie as tie
 
 -- the chain is sound
-module _ (c : tie.After-got) where
+module _ (c : tie.In-Chain-2) where
   abbrev start : tie.Start
   start = c.before.before.before.before.before
 
@@ -27,70 +27,70 @@ module _ (c : tie.After-got) where
   abbrev told : ChainEndOf
   told =
       record {
-        first = c.got.given.0.0;
-        length = c.got.given.0.1.0;
-        pages = c.got.given.0.1.1.0;
-        padded = c.got.given.0.1.1.1.0;
+        first = c.got-1.given.0.0;
+        length = c.got-1.given.0.1.0;
+        pages = c.got-1.given.0.1.1.0;
+        padded = c.got-1.given.0.1.1.1.0;
       }
 
   held : (k : Chain) × (soundly (chain_at s start.args.last) ≡ accepted k) × (chain_end_of true k ≡ told)
-  held = was_accepted (chain_end_of true) _ (sym c.before.before.chain-end.ensures ∙ ap chain_answer c.got.given.1)
+  held = was_accepted (chain_end_of true) _ (sym c.before.before.chain_end-got.ensures ∙ ap chain_answer c.got-1.given.1)
 
   size : length held.0.numbers ≡ told.length
   size = ap (λ (x : ChainEndOf). x.length) held.2
 
-chain-end-requires : tie.Need-chain-end-requires
-chain-end-requires c κs = search rules
+chain_end-got-requires : tie.Need-chain_end-got-requires
+chain_end-got-requires c κs = search rules
 
-enum-known-got : tie.Need-enum-known-got
-enum-known-got c = search rules
+enum_known-got : tie.Need-enum_known-got
+enum_known-got c = search rules
 
-enum_told : tie.Need-enum-told
-enum_told c = search rules
+enum_told-1 : tie.Need-enum_told-1
+enum_told-1 c = search rules
 
-returns : tie.Need-returns
-returns c =
+returns-in_default : tie.Need-returns-in_default
+returns-in_default c =
     let e = c.before.before in
     let a = e.before.before.before.args in
-    let stop = was_refused (chain_end_of true) _ (sym e.chain-end.ensures ∙ ap chain_answer c.enum_told.given.1) in
+    let stop = was_refused (chain_end_of true) _ (sym e.chain_end-got.ensures ∙ ap chain_answer c.enum_told-1.given.1) in
     read_unsound a.out.now _ _
     (soundly_no _ (content_no_pages (body_ground a.body.now a.mark) a.last (was_unsound _ stop).1)) refl
 
-returns-2 : tie.Need-returns-2
-returns-2 c =
+returns-then-out-length : tie.Need-returns-then-out-length
+returns-then-out-length c =
     let g = c.before.before in
     let k = held g in
     read_short (start g).args.out.now _ _ (in_pages k.0)
     (soundly_yes _ (content_pages (s g) (start g).args.last k.0 (was_sound _ k.1)))
-    (omega (arith, c.if1.true, size g)) refl
+    (omega (arith, c.if-out-length.true, size g)) refl
 
-chain-into-requires : tie.Need-chain-into-requires
-chain-into-requires c κs = search rules
+chain_into-requires : tie.Need-chain_into-requires
+chain_into-requires c κs = search rules
 
-same_length : tie.Need-same-length
-same_length c = search rules
+shape_of-out : tie.Need-shape_of-out
+shape_of-out c = search rules
 
-returns-3 : tie.Need-returns-3
+returns : tie.Need-returns
 unfolding if_asked
-returns-3 c =
+returns c =
     let f = c.before.before.before.before in
     let g = f.before.before in
     let k = held g in
-    let fits : length k.0.numbers ≤ length (start g).args.out.now = omega (arith, f.if1.false, size g) in
+    let fits : length k.0.numbers ≤ length (start g).args.out.now = omega (arith, f.if-out-length.false, size g) in
     read_listed (start g).args.out.now _ _ (in_pages k.0)
     (soundly_yes _ (content_pages (s g) (start g).args.last k.0 (was_sound _ k.1))) _
     (ap (λ (x : ChainEndOf). record { length = x.length; pages = x.pages; padded = x.padded }) k.2) fits
-    (c.before.before.chain-into.ensures k.0 k.1 (sym (ap (λ (x : ChainEndOf). x.first) k.2)) fits)
+    (c.before.before.chain_into.ensures k.0 k.1 (sym (ap (λ (x : ChainEndOf). x.first) k.2)) fits)
 
-pub read-chain-spec : {M : Type 1} → statement M
-read-chain-spec =
+pub read_chain_spec : {M : Type 1} → statement M
+read_chain_spec =
     tie.close
     (tie.spec
-    chain-end-requires
-    enum-known-got
-    enum_told
-    returns
-    returns-2
-    chain-into-requires
-    same_length
-    returns-3)
+    chain_end-got-requires
+    enum_known-got
+    enum_told-1
+    returns-in_default
+    returns-then-out-length
+    chain_into-requires
+    shape_of-out
+    returns)

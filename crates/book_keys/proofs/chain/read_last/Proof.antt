@@ -17,106 +17,106 @@ use Rattle.book_keys.proofs.chain.read_last.Statement.{statement}
 use Rattle.book_keys.proofs.chain.read_last.Tie as tie
 
 -- the version is 2
-module _ (c : tie.Else1) where
+module _ (c : tie.Else-page-ne-SH_PAGE_EXTENT_VER) where
   abbrev page : List ℕ
   page = c.before.before.before.args.page.now
 
   extent : version_of page ≡ 2
-  extent = version_byte page (omega (arith, c.before.before.before.requires)) ∙ c.if1.false
+  extent = version_byte page (omega (arith, c.before.before.before.requires)) ∙ c.if-page-ne-SH_PAGE_EXTENT_VER.false
 
 -- LAST was told, and the extent judged
-module _ (c : tie.After-check-extent) where
-  abbrev at : tie.Else1
+module _ (c : tie.After-check_extent-named) where
+  abbrev at : tie.Else-page-ne-SH_PAGE_EXTENT_VER
   at = c.before.before.before.before.before.before.before
 
-  abbrev told : tie.After-link
+  abbrev told : tie.In-Offset-2
   told = c.before.before.before.before
 
-  last : (is_last_link (link_of (page at)) ≡ true) × (link_offset (link_of (page at)) ≡ told.link.given.0.0)
+  last : (is_last_link (link_of (page at)) ≡ true) × (link_offset (link_of (page at)) ≡ told.link-1.given.0.0)
   last =
-      first_told (page at) at.before.before.before.pre told.link.given.0.0
-      (sym told.before.before.sh-page-first-off.ensures ∙ ap offset_answer told.link.given.1)
+      first_told (page at) at.before.before.before.pre told.link-1.given.0.0
+      (sym told.before.before.sh_page_first_off-link.ensures ∙ ap offset_answer told.link-1.given.1)
 
   is : last_read (page at) ≡ and_then (extent_named (extent_base_of (page at)) (extent_count_of (page at))) (λ e. accepted (last_of_page (page at)))
   is = last_extent (page at) (extent at) last.0
 
-  named : done_answer c.check-extent.result ≡ extent_named (extent_base_of (page at)) (extent_count_of (page at))
+  named : done_answer c.check_extent-named.result ≡ extent_named (extent_base_of (page at)) (extent_count_of (page at))
   named =
-      c.check-extent.ensures
-      ∙ ap (λ (b : ℕ). extent_named b c.before.get-u32.result) (c.before.before.get-u64.ensures ∙ field_read (page at) 8 8)
-      ∙ ap (extent_named (extent_base_of (page at))) (c.before.get-u32.ensures ∙ field_read (page at) 16 4)
+      c.check_extent-named.ensures
+      ∙ ap (λ (b : ℕ). extent_named b c.before.get_u32-n.result) (c.before.before.get_u64-base.ensures ∙ field_read (page at) 8 8)
+      ∙ ap (extent_named (extent_base_of (page at))) (c.before.get_u32-n.ensures ∙ field_read (page at) 16 4)
 
-shared-slice-read-if1 : tie.Need-shared-slice-read-if1
-shared-slice-read-if1 c = search rules
+bounds-page-0 : tie.Need-bounds-page-0
+bounds-page-0 c = search rules
 
-returns : tie.Need-returns
-returns c =
+returns-then-page-ne-SH_PAGE_EXTENT_VER : tie.Need-returns-then-page-ne-SH_PAGE_EXTENT_VER
+returns-then-page-ne-SH_PAGE_EXTENT_VER c =
     let p = c.before.before.before.args.page.now in
-    sym (soundly_no _ (last_version p (λ e. c.if1.true (sym (version_byte p (omega (arith, c.before.before.before.requires))) ∙ e))))
+    sym (soundly_no _ (last_version p (λ e. c.if-page-ne-SH_PAGE_EXTENT_VER.true (sym (version_byte p (omega (arith, c.before.before.before.requires))) ∙ e))))
 
-sh-page-first-off-requires : tie.Need-sh-page-first-off-requires
-sh-page-first-off-requires c κs = search rules
+sh_page_first_off-link-requires : tie.Need-sh_page_first_off-link-requires
+sh_page_first_off-link-requires c κs = search rules
 
-enum-known-link : tie.Need-enum-known-link
-enum-known-link c = search rules
+enum_known-link : tie.Need-enum_known-link
+enum_known-link c = search rules
 
-enum_told : tie.Need-enum-told
-enum_told c = search rules
+enum_told-1 : tie.Need-enum_told-1
+enum_told-1 c = search rules
 
-returns-2 : tie.Need-returns-2
-returns-2 c =
+returns-in_default : tie.Need-returns-in_default
+returns-in_default c =
     let d = c.before.before.before in
     let p = page d in
     sym (soundly_no _ (last_none p (extent d)
-    (first_untold p d.before.before.before.requires (sym c.before.before.sh-page-first-off.ensures
-    ∙ ap offset_answer c.enum_told.given.1))))
+    (first_untold p d.before.before.before.requires (sym c.before.before.sh_page_first_off-link.ensures
+    ∙ ap offset_answer c.enum_told-1.given.1))))
 
-get-u64-requires : tie.Need-get-u64-requires
-get-u64-requires c κs = search rules
+get_u64-base-requires : tie.Need-get_u64-base-requires
+get_u64-base-requires c κs = search rules
 
-get-u32-requires : tie.Need-get-u32-requires
-get-u32-requires c κs = search rules
+get_u32-n-requires : tie.Need-get_u32-n-requires
+get_u32-n-requires c κs = search rules
 
-check-extent-requires : tie.Need-check-extent-requires
-check-extent-requires c κs = search rules
+check_extent-named-requires : tie.Need-check_extent-named-requires
+check_extent-named-requires c κs = search rules
 
-enum-told-2 : tie.Need-enum-told-2
-enum-told-2 c = search rules
+enum_told-in-Done : tie.Need-enum_told-in-Done
+enum_told-in-Done c = search rules
 
-enum-told-3 : tie.Need-enum-told-3
-enum-told-3 c = search rules
+enum_told-in_default-named : tie.Need-enum_told-in_default-named
+enum_told-in_default-named c = search rules
 
-returns-3 : tie.Need-returns-3
-returns-3 c =
+returns-in_default-named : tie.Need-returns-in_default-named
+returns-in_default-named c =
     let d = c.before.before in
-    sym (soundly_no _ (is d ∙ then_no _ _ (sym (named d) ∙ ap done_answer c.enum-told3.given.1)))
+    sym (soundly_no _ (is d ∙ then_no _ _ (sym (named d) ∙ ap done_answer c.enum_told-in_default-named-1.given.1)))
 
-get-u32-requires-2 : tie.Need-get-u32-requires-2
-get-u32-requires-2 c κs = search rules
+get_u32-creates-requires : tie.Need-get_u32-creates-requires
+get_u32-creates-requires c κs = search rules
 
-returns-4 : tie.Need-returns-4
-returns-4 c =
+returns : tie.Need-returns
+returns c =
     let d = c.before.before.before in
     let p = page (at d) in
-    ap (λ (n : ℕ). accepted (record { first = (told d).link.given.0.0; creates = n })) (c.get-u322.ensures ∙ field_read p 20 4)
+    ap (λ (n : ℕ). accepted (record { first = (told d).link-1.given.0.0; creates = n })) (c.get_u32-creates.ensures ∙ field_read p 20 4)
     ∙ ap (λ (f : ℕ). accepted (record { first = f; creates = (last_of_page p).creates })) (sym (last d).1)
-    ∙ sym (soundly_yes _ (is d ∙ then_yes _ _ (sym (named d) ∙ ap done_answer c.before.enum-told2.given.1)))
+    ∙ sym (soundly_yes _ (is d ∙ then_yes _ _ (sym (named d) ∙ ap done_answer c.before.enum_told-in-Done-1.given.1)))
 
 pub read_last_spec : {M : Type 1} → statement M
 read_last_spec =
     tie.close
     (tie.spec
-    shared-slice-read-if1
-    returns
-    sh-page-first-off-requires
-    enum-known-link
-    enum_told
-    returns-2
-    get-u64-requires
-    get-u32-requires
-    check-extent-requires
-    enum-told-2
-    enum-told-3
-    returns-3
-    get-u32-requires-2
-    returns-4)
+    bounds-page-0
+    returns-then-page-ne-SH_PAGE_EXTENT_VER
+    sh_page_first_off-link-requires
+    enum_known-link
+    enum_told-1
+    returns-in_default
+    get_u64-base-requires
+    get_u32-n-requires
+    check_extent-named-requires
+    enum_told-in-Done
+    enum_told-in_default-named
+    returns-in_default-named
+    get_u32-creates-requires
+    returns)

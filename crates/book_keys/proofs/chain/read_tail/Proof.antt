@@ -19,19 +19,19 @@ use Rattle.book_keys.proofs.chain.read_tail.Statement.{statement}
 use Rattle.book_keys.proofs.chain.read_tail.Tie as tie
 
 -- the header was read
-module _ (c : tie.After-header) where
+module _ (c : tie.In-Header-2) where
   abbrev page : List ℕ
   page = c.before.before.before.before.args.page.now
 
   abbrev head : Last
-  head = record { first = c.header.given.0.0; creates = c.header.given.0.1.0 }
+  head = record { first = c.header-1.given.0.0; creates = c.header-1.given.0.1.0 }
 
   is : last_read page ≡ accepted head
-  is = was_sound _ (sym c.before.before.read_last.ensures ∙ ap last_page_answer c.header.given.1)
+  is = was_sound _ (sym c.before.before.read_last-header.ensures ∙ ap last_page_answer c.header-1.given.1)
 
 -- the page was scanned
-module _ (c : tie.After-sh-page-stream-tail) where
-  abbrev at : tie.After-header
+module _ (c : tie.After-sh_page_stream_tail-got) where
+  abbrev at : tie.In-Header-2
   at = c.before.before
 
   abbrev scanned : Answer Scan
@@ -41,78 +41,78 @@ module _ (c : tie.After-sh-page-stream-tail) where
   fine = tail_by_last (page at) (head at) (is at)
 
 -- it scans
-module _ (c : tie.After-sound-last) where
-  abbrev back : tie.After-sh-page-stream-tail
+module _ (c : tie.After-sound_last) where
+  abbrev back : tie.After-sh_page_stream_tail-got
   back = c.before.before.before.before
 
   abbrev end : End
-  end = record { taken = c.before.before.got.given.0.0; last = c.before.before.got.given.0.1.0 }
+  end = record { taken = c.before.before.got-1.given.0.0; last = c.before.before.got-1.given.0.1.0 }
 
   end_is : answered (end_from 0) (scanned back) ≡ accepted end
-  end_is = sym back.sh-page-stream-tail.ensures ∙ ap scan_answer c.before.before.got.given.1
+  end_is = sym back.sh_page_stream_tail-got.ensures ∙ ap scan_answer c.before.before.got-1.given.1
 
-read-last-requires : tie.Need-read-last-requires
-read-last-requires c κs = search rules
+read_last-header-requires : tie.Need-read_last-header-requires
+read_last-header-requires c κs = search rules
 
-enum-known-header : tie.Need-enum-known-header
-enum-known-header c = search rules
+enum_known-header : tie.Need-enum_known-header
+enum_known-header c = search rules
 
-enum_told : tie.Need-enum-told
-enum_told c = search rules
+enum_told-1 : tie.Need-enum_told-1
+enum_told-1 c = search rules
 
-returns : tie.Need-returns
-returns c =
-    let bad = was_unsound _ (sym c.before.before.read_last.ensures ∙ ap last_page_answer c.enum_told.given.1) in
+returns-in_default : tie.Need-returns-in_default
+returns-in_default c =
+    let bad = was_unsound _ (sym c.before.before.read_last-header.ensures ∙ ap last_page_answer c.enum_told-1.given.1) in
     turned_back tail_end_of _ (tail_no c.before.before.before.before.args.page.now bad.1)
 
-sh-page-stream-tail-requires : tie.Need-sh-page-stream-tail-requires
-sh-page-stream-tail-requires c κs = search rules
+sh_page_stream_tail-got-requires : tie.Need-sh_page_stream_tail-got-requires
+sh_page_stream_tail-got-requires c κs = search rules
 
-enum-known-got : tie.Need-enum-known-got
-enum-known-got c = search rules
+enum_known-got : tie.Need-enum_known-got
+enum_known-got c = search rules
 
-enum-told-2 : tie.Need-enum-told-2
-enum-told-2 c = search rules
+enum_told-in_default-got : tie.Need-enum_told-in_default-got
+enum_told-in_default-got c = search rules
 
-returns-2 : tie.Need-returns-2
-returns-2 c =
+returns-in_default-got : tie.Need-returns-in_default-got
+returns-in_default-got c =
     let d = c.before.before in
     turned_back tail_end_of _
     (fine d ∙ then_no (last_sound (scanned d)) _
-    (end_refused (scanned d) (sym d.sh-page-stream-tail.ensures ∙ ap scan_answer c.enum-told2.given.1)))
+    (end_refused (scanned d) (sym d.sh_page_stream_tail-got.ensures ∙ ap scan_answer c.enum_told-in_default-got-1.given.1)))
 
-sound-last-requires : tie.Need-sound-last-requires
-sound-last-requires c κs = search rules
+sound_last-requires : tie.Need-sound_last-requires
+sound_last-requires c κs = search rules
 
-returns-3 : tie.Need-returns-3
-returns-3 c =
+returns-then-not-sound_last : tie.Need-returns-then-not-sound_last
+returns-then-not-sound_last c =
     let d = c.before in
     let b = back d in
     turned_back tail_end_of _
     (fine b ∙ then_no (last_sound (scanned b)) _
-    (end_unsound (scanned b) (end d) (end_is d) (sym d.sound-last.ensures ∙ not-true _ c.if1.true)))
+    (end_unsound (scanned b) (end d) (end_is d) (sym d.sound_last.ensures ∙ not-true _ c.if-not-sound_last.true)))
 
-returns-4 : tie.Need-returns-4
-returns-4 c =
+returns : tie.Need-returns
+returns c =
     let d = c.before in
     let b = back d in
-    let got = end_sound (scanned b) (end d) (end_is d) (sym d.sound-last.ensures ∙ not-false _ c.if1.false) in
+    let got = end_sound (scanned b) (end d) (end_is d) (sym d.sound_last.ensures ∙ not-false _ c.if-not-sound_last.false) in
     ap (λ (e : End). accepted (record { taken = e.taken; fk = e.last; first = (head (at b)).first; creates = (head (at b)).creates }))
     (sym got.3)
     ∙ let_through tail_end_of _ (fine b ∙ then_yes (last_sound (scanned b)) _ got.2)
 
-pub read-tail-spec : {M : Type 1} → statement M
-read-tail-spec =
+pub read_tail_spec : {M : Type 1} → statement M
+read_tail_spec =
     tie.close
     (tie.spec
-    read-last-requires
-    enum-known-header
-    enum_told
-    returns
-    sh-page-stream-tail-requires
-    enum-known-got
-    enum-told-2
-    returns-2
-    sound-last-requires
-    returns-3
-    returns-4)
+    read_last-header-requires
+    enum_known-header
+    enum_told-1
+    returns-in_default
+    sh_page_stream_tail-got-requires
+    enum_known-got
+    enum_told-in_default-got
+    returns-in_default-got
+    sound_last-requires
+    returns-then-not-sound_last
+    returns)

@@ -19,7 +19,7 @@ use Rattle.book_keys.proofs.chain.tail_end.Statement.{statement}
 use Rattle.book_keys.proofs.chain.tail_end.Tie as tie
 
 -- the page stands
-module _ (c : tie.Else1) where
+module _ (c : tie.Else-not-is_page) where
   abbrev at : tie.Start
   at = c.before.before.before
 
@@ -30,51 +30,51 @@ module _ (c : tie.Else1) where
   off = at.args.last
 
   stands : is_block page_class off s.mark ≡ true
-  stands = sym c.before.is-page.ensures ∙ not-false _ c.if1.false
+  stands = sym c.before.is_page.ensures ∙ not-false _ c.if-not-is_page.false
 
   inside : off + page_size ≤ length at.args.body.now
   inside = page_inside s off stands at.args.body.now at.pre
 
-is-page-requires : tie.Need-is-page-requires
-is-page-requires c κs = search rules
+is_page-requires : tie.Need-is_page-requires
+is_page-requires c κs = search rules
+
+returns-then-not-is_page : tie.Need-returns-then-not-is_page
+returns-then-not-is_page c =
+    let a = c.before.before.before.args in
+    turned_back tail_end_of _ (tail_off (body_ground a.body.now a.mark) a.last
+    (sym c.before.is_page.ensures ∙ not-true _ c.if-not-is_page.true))
+
+overflow_add-start : tie.Need-overflow_add-start
+overflow_add-start c = let h = inside c in omega arith
+
+slice_bounds-read_tail-count : tie.Need-slice_bounds-read_tail-count
+slice_bounds-read_tail-count c = search rules
+
+slice_bounds-read_tail-start : tie.Need-slice_bounds-read_tail-start
+slice_bounds-read_tail-start c = search rules
+
+slice_bounds-read_tail-end : tie.Need-slice_bounds-read_tail-end
+slice_bounds-read_tail-end c = inside c
+
+read_tail-requires : tie.Need-read_tail-requires
+read_tail-requires c κs = search rules
 
 returns : tie.Need-returns
 returns c =
-    let a = c.before.before.before.args in
-    turned_back tail_end_of _ (tail_off (body_ground a.body.now a.mark) a.last
-    (sym c.before.is-page.ensures ∙ not-true _ c.if1.true))
-
-add-read-tail : tie.Need-overflow-add-read-tail
-add-read-tail c = let h = inside c in omega arith
-
-sub-read-tail : tie.Need-overflow-sub-read-tail
-sub-read-tail c = search rules
-
-part-read-tail-start : tie.Need-slice-bounds-read-tail-start
-part-read-tail-start c = search rules
-
-part-read-tail-end : tie.Need-slice-bounds-read-tail-end
-part-read-tail-end c = inside c
-
-read-tail-requires : tie.Need-read-tail-requires
-read-tail-requires c κs = search rules
-
-returns-2 : tie.Need-returns-2
-returns-2 c =
     let d = c.before.before in
-    c.read-tail.ensures
+    c.read_tail.ensures
     ∙ ap (λ (bs : List ℕ). answered tail_end_of (soundly (tail_read bs))) (span (at d).args.body.now (off d) page_size page_size refl)
     ∙ ap (λ a. answered tail_end_of (soundly a)) (sym (tail_on (s d) (off d) (stands d)))
 
-pub tail-end-spec : {M : Type 1} → statement M
-tail-end-spec =
+pub tail_end_spec : {M : Type 1} → statement M
+tail_end_spec =
     tie.close
     (tie.spec
-    is-page-requires
-    returns
-    add-read-tail
-    sub-read-tail
-    part-read-tail-start
-    part-read-tail-end
-    read-tail-requires
-    returns-2)
+    is_page-requires
+    returns-then-not-is_page
+    overflow_add-start
+    slice_bounds-read_tail-count
+    slice_bounds-read_tail-start
+    slice_bounds-read_tail-end
+    read_tail-requires
+    returns)

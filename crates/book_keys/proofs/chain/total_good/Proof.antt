@@ -20,15 +20,15 @@ told_same creates n low some' = go (leb n most_counted) refl
         let past = leb-false n most_counted e in
         rw (ne_eqb creates n (λ (z : creates ≡ n). omega arith), ne_eqb creates 0 some') refl
 
+returns-then-creates-eq0 : tie.Need-returns-then-creates-eq0
+unfolding total_good
+returns-then-creates-eq0 c = rw (eq-eqb c.before.args.creates 0 c.if-creates-eq0.true)
+
 returns : tie.Need-returns
 unfolding total_good
-returns c = rw (eq-eqb c.before.args.creates 0 c.if1.true)
-
-returns-2 : tie.Need-returns-2
-unfolding total_good
-returns-2 c =
+returns c =
     let a = c.before.args in
-    rw (ne_eqb a.creates 0 c.if1.false) (told_same a.creates a.length (omega arith) c.if1.false)
+    rw (ne_eqb a.creates 0 c.if-creates-eq0.false) (told_same a.creates a.length (omega arith) c.if-creates-eq0.false)
 
-pub total-good-spec : {M : Type 1} → statement M
-total-good-spec = tie.close (tie.spec returns returns-2)
+pub total_good_spec : {M : Type 1} → statement M
+total_good_spec = tie.close (tie.spec returns-then-creates-eq0 returns)

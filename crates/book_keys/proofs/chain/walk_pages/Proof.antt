@@ -20,18 +20,18 @@ use Rattle.book_keys.proofs.LawsWalk.{told, told_start, told_none, told_refused,
 use Rattle.book_keys.proofs.chain.walk_pages.Statement.{statement}
 use Rattle.book_keys.proofs.chain.walk_pages.Tie as tie
 
-abbrev invariant_loop : tie.invariant_loop
+abbrev invariant_loop : tie.invariant-loop-pages
 invariant_loop body mark first last counted most off₀ prev₀ length₀ pages₀ padded₀ off prev length pages padded =
     (pages ≤ most) × (length ≤ 4096 * pages)
     × (told counted length pages padded (most - pages) (body_ground body mark) last prev off
     ≡ answered (walked_from counted 0 0 0) (soundly (walk most (body_ground body mark) last 0 first)))
     × (padded ≤ 4096 * pages)
 
-abbrev decreases_loop : tie.decreases_loop
+abbrev decreases_loop : tie.decreases-loop-pages
 decreases_loop body mark first last counted most off₀ prev₀ length₀ pages₀ padded₀ off prev length pages padded = most - pages
 
 -- a turn
-module _ (t : tie.In-loop invariant_loop decreases_loop) where
+module _ (t : tie.In-loop-pages invariant_loop decreases_loop) where
   abbrev at : tie.Start invariant_loop decreases_loop
   at = t.before.before.before
 
@@ -45,39 +45,39 @@ module _ (t : tie.In-loop invariant_loop decreases_loop) where
   most = at.args.mark / page_size
 
   abbrev off : ℕ
-  off = t.before.loop.off
+  off = t.before.loop-pages.off
 
   abbrev prev : ℕ
-  prev = t.before.loop.prev
+  prev = t.before.loop-pages.prev
 
   abbrev count : ℕ
-  count = t.before.loop.length
+  count = t.before.loop-pages.length
 
   abbrev pages : ℕ
-  pages = t.before.loop.pages
+  pages = t.before.loop-pages.pages
 
   abbrev padded : ℕ
-  padded = t.before.loop.padded
+  padded = t.before.loop-pages.padded
 
 -- the page was read
-module _ (c : tie.After-got invariant_loop decreases_loop) where
-  abbrev turn : tie.In-loop invariant_loop decreases_loop
+module _ (c : tie.In-Page-2 invariant_loop decreases_loop) where
+  abbrev turn : tie.In-loop-pages invariant_loop decreases_loop
   turn = c.before.before.before
 
   abbrev end : LinkEndOf
   end =
       record {
-        count = c.got.given.0.0;
-        fk = c.got.given.0.1.0;
-        last = c.got.given.0.1.1.0;
-        next = c.got.given.0.1.1.1.0;
-        padded = c.got.given.0.1.1.1.1.0;
+        count = c.got-1.given.0.0;
+        fk = c.got-1.given.0.1.0;
+        last = c.got-1.given.0.1.1.0;
+        next = c.got-1.given.0.1.1.1.0;
+        padded = c.got-1.given.0.1.1.1.1.0;
       }
 
   page : (p : Scan) × (soundly (link_scan (s turn) (prev turn) (off turn)) ≡ accepted p)
       × (link_end_of (asked turn) (page_at (s turn) (off turn)) p ≡ end)
-  page = was_accepted (link_end_of (asked turn) (page_at (s turn) (off turn))) _ (sym c.before.before.link-end.ensures
-      ∙ ap link_end_answer c.got.given.1)
+  page = was_accepted (link_end_of (asked turn) (page_at (s turn) (off turn))) _ (sym c.before.before.link_end-got.ensures
+      ∙ ap link_end_answer c.got-1.given.1)
 
   is : link_scan (s turn) (prev turn) (off turn) ≡ accepted page.0
   is = was_sound _ page.1
@@ -101,103 +101,103 @@ module _ (c : tie.After-got invariant_loop decreases_loop) where
         k.count_fits,
       )
 
-loop-holds : tie.Need-loop-init invariant_loop decreases_loop
-loop-holds c = let a = c.before.args in
+loop-pages-init : tie.Need-loop-pages-init invariant_loop decreases_loop
+loop-pages-init c = let a = c.before.args in
     (omega arith, omega arith, told_start a.counted (a.mark / 4096) (body_ground a.body.now a.mark) a.last a.first, omega arith)
 
-link-end-requires : tie.Need-link-end-requires invariant_loop decreases_loop
-link-end-requires c κs = search rules
+link_end-got-requires : tie.Need-link_end-got-requires invariant_loop decreases_loop
+link_end-got-requires c κs = search rules
 
-enum-known-got : tie.Need-enum-known-got invariant_loop decreases_loop
-enum-known-got c = search rules
+enum_known-got : tie.Need-enum_known-got invariant_loop decreases_loop
+enum_known-got c = search rules
 
-enum_told : tie.Need-enum-told invariant_loop decreases_loop
-enum_told c = search rules
+enum_told-1 : tie.Need-enum_told-1 invariant_loop decreases_loop
+enum_told-1 c = search rules
 
-returns : tie.Need-returns invariant_loop decreases_loop
-returns c =
+returns-in_default : tie.Need-returns-in_default invariant_loop decreases_loop
+returns-in_default c =
     let t = c.before.before.before in
-    told_refused (asked t) (count t) (pages t) (padded t) (most t) (s t) (at t).args.last (prev t) (off t) t.loop-test.true
-    (was_refused (link_end_of (asked t) (page_at (s t) (off t))) _ (sym c.before.before.link-end.ensures
-    ∙ ap link_end_answer c.enum_told.given.1))
-    ∙ t.before.loop.invariant.2
+    told_refused (asked t) (count t) (pages t) (padded t) (most t) (s t) (at t).args.last (prev t) (off t) t.loop-pages-test.true
+    (was_refused (link_end_of (asked t) (page_at (s t) (off t))) _ (sym c.before.before.link_end-got.ensures
+    ∙ ap link_end_answer c.enum_told-1.given.1))
+    ∙ t.before.loop-pages.invariant.2
 
-add-length : tie.Need-overflow-add-length invariant_loop decreases_loop
-add-length c = let h = few c.before in omega arith
+overflow_add-length : tie.Need-overflow_add-length invariant_loop decreases_loop
+overflow_add-length c = let h = few c.before in omega arith
 
-add-padded : tie.Need-overflow-add-padded invariant_loop decreases_loop
-add-padded c = let h = few_padded c.before in omega arith
+overflow_add-padded : tie.Need-overflow_add-padded invariant_loop decreases_loop
+overflow_add-padded c = let h = few_padded c.before in omega arith
 
-add-pages : tie.Need-overflow-add-pages invariant_loop decreases_loop
-add-pages c = omega arith
+overflow_add-pages : tie.Need-overflow_add-pages invariant_loop decreases_loop
+overflow_add-pages c = omega arith
 
-returns-2 : tie.Need-returns-2 invariant_loop decreases_loop
-returns-2 c =
+returns-then-off-last : tie.Need-returns-then-off-last invariant_loop decreases_loop
+returns-then-off-last c =
     let d = c.before.before in
     let t = turn d in
     ap (λ (n : ℕ). accepted (record { length = count t + n; pages = pages t + 1; padded = padded t + (end d).padded })) (sym (count_is d))
     ∙ ap (λ (n : ℕ). accepted (record { length = count t + length (page d).0.numbers; pages = pages t + 1; padded = padded t + n }))
     (sym (padded_is d))
-    ∙ told_last (asked t) (count t) (pages t) (padded t) (most t) (s t) (at t).args.last (prev t) (off t) t.loop-test.taken
+    ∙ told_last (asked t) (count t) (pages t) (padded t) (most t) (s t) (at t).args.last (prev t) (off t) t.loop-pages-test.taken
     (page d).0 (is d)
-    c.if1.true
-    ∙ t.before.loop.inv.2
+    c.if-off-last.true
+    ∙ t.before.loop-pages.invariant.2
 
-returns-3 : tie.Need-returns-3 invariant_loop decreases_loop
-returns-3 c =
+returns-then-end : tie.Need-returns-then-end invariant_loop decreases_loop
+returns-then-end c =
     let d = c.before.before.before in
     let t = turn d in
-    told_flagged (asked t) (count t) (pages t) (padded t) (most t) (s t) (at t).args.last (prev t) (off t) t.loop-test.taken
+    told_flagged (asked t) (count t) (pages t) (padded t) (most t) (s t) (at t).args.last (prev t) (off t) t.loop-pages-test.taken
     (page d).0 (is d)
-    c.before.if1.false
-    (ap (λ (e : LinkEndOf). e.last) (page d).2 ∙ c.if2.true)
-    ∙ t.before.loop.inv.2
+    c.before.if-off-last.false
+    (ap (λ (e : LinkEndOf). e.last) (page d).2 ∙ c.if-end.true)
+    ∙ t.before.loop-pages.invariant.2
 
-loop-less : tie.Need-loop-smaller invariant_loop decreases_loop
-loop-less c = omega arith
+loop-pages-smaller : tie.Need-loop-pages-smaller invariant_loop decreases_loop
+loop-pages-smaller c = omega arith
 
-loop-again : tie.Need-loop-preserved invariant_loop decreases_loop
-loop-again c =
+loop-pages-preserved : tie.Need-loop-pages-preserved invariant_loop decreases_loop
+loop-pages-preserved c =
     let d = c.before.before.before in
     let t = turn d in
     let last = (at t).args.last in
     let more =
-    told_more (asked t) (count t) (pages t) (padded t) (most t) (s t) last (prev t) (off t) t.loop-test.taken (page d).0 (is d)
-    c.before.if1.false
-    (ap (λ (e : LinkEndOf). e.last) (page d).2 ∙ c.if2.false) in (
+    told_more (asked t) (count t) (pages t) (padded t) (most t) (s t) last (prev t) (off t) t.loop-pages-test.taken (page d).0 (is d)
+    c.before.if-off-last.false
+    (ap (λ (e : LinkEndOf). e.last) (page d).2 ∙ c.if-end.false) in (
       omega arith,
       let h = few d in omega arith,
       sym (ap (λ (e : LinkEndOf). told (asked t) (count t + e.count) (pages t + 1) (padded t + e.padded) (most t - (pages t + 1)) (s t)
           last
           e.fk e.next)
-          (page d).2) ∙ more ∙ t.before.loop.inv.2,
+          (page d).2) ∙ more ∙ t.before.loop-pages.invariant.2,
       let h = few_padded d in omega arith,
     )
 
-returns-4 : tie.Need-returns-4 invariant_loop decreases_loop
-returns-4 c =
+returns : tie.Need-returns invariant_loop decreases_loop
+returns c =
     let a = c.before.before.before.args in
-    let l = c.before.loop in
+    let l = c.before.loop-pages in
     told_none a.counted l.length l.pages l.padded (a.mark / page_size) (body_ground a.body.now a.mark) a.last
     l.prev l.off
-    c.loop-test.false ∙ l.invariant.2
+    c.loop-pages-test.false ∙ l.invariant.2
 
-pub walk-pages-spec : {M : Type 1} → statement M
-walk-pages-spec =
+pub walk_pages_spec : {M : Type 1} → statement M
+walk_pages_spec =
     tie.close
     (tie.spec
     invariant_loop
     decreases_loop
-    loop-holds
-    link-end-requires
-    enum-known-got
-    enum_told
-    returns
-    add-length
-    add-pages
-    add-padded
-    returns-2
-    returns-3
-    loop-less
-    loop-again
-    returns-4)
+    loop-pages-init
+    link_end-got-requires
+    enum_known-got
+    enum_told-1
+    returns-in_default
+    overflow_add-length
+    overflow_add-pages
+    overflow_add-padded
+    returns-then-off-last
+    returns-then-end
+    loop-pages-smaller
+    loop-pages-preserved
+    returns)

@@ -9,22 +9,22 @@ use Rattle.book_keys.proofs.LawsListed.{read_short, read_listed}
 use Rattle.book_keys.proofs.key.read_inline.Statement.{statement}
 use Rattle.book_keys.proofs.key.read_inline.Tie as tie
 
+returns-then-out-lt1 : tie.Need-returns-then-out-lt1
+returns-then-out-lt1 c s used =
+    let a = c.before.args in
+    read_short a.out.now _ _ _ (soundly_yes _ (content_inline s a.entry used)) c.if-out-lt1.true refl
+
+bounds-out-0 : tie.Need-bounds-out-0
+bounds-out-0 c = search rules
+
+shape_of-out : tie.Need-shape_of-out
+shape_of-out c = search rules
+
 returns : tie.Need-returns
 returns c s used =
     let a = c.before.args in
-    read_short a.out.now _ _ _ (soundly_yes _ (content_inline s a.entry used)) c.if1.true refl
+    read_listed a.out.now _ _ _ (soundly_yes _ (content_inline s a.entry used)) _ refl (omega (arith, c.if-out-lt1.false))
+    (sym (overwrite_one a.out.now 0 a.entry (omega (arith, c.if-out-lt1.false))))
 
-slice-write-out : tie.Need-slice-write-out
-slice-write-out c = search rules
-
-same_length : tie.Need-same-length
-same_length c = search rules
-
-returns-2 : tie.Need-returns-2
-returns-2 c s used =
-    let a = c.before.args in
-    read_listed a.out.now _ _ _ (soundly_yes _ (content_inline s a.entry used)) _ refl (omega (arith, c.if1.false))
-    (sym (overwrite_one a.out.now 0 a.entry (omega (arith, c.if1.false))))
-
-pub read-inline-spec : {M : Type 1} → statement M
-read-inline-spec = tie.close (tie.spec returns slice-write-out same_length returns-2)
+pub read_inline_spec : {M : Type 1} → statement M
+read_inline_spec = tie.close (tie.spec returns-then-out-lt1 bounds-out-0 shape_of-out returns)

@@ -11,45 +11,45 @@ use Rattle.book_keys.proofs.LawsListed.{read_unsound}
 use Rattle.book_keys.proofs.key.read_key.Statement.{statement}
 use Rattle.book_keys.proofs.key.read_key.Tie as tie
 
-unpack8-requires : tie.Need-unpack8-requires
-unpack8-requires c κs = search rules
+unpack8-got-requires : tie.Need-unpack8-got-requires
+unpack8-got-requires c κs = search rules
 
-enum-known-got : tie.Need-enum-known-got
-enum-known-got c = search rules
+enum_known-got : tie.Need-enum_known-got
+enum_known-got c = search rules
 
-enum_told : tie.Need-enum-told
-enum_told c = search rules
+enum_told-1 : tie.Need-enum_told-1
+enum_told-1 c = search rules
+
+returns-in_default : tie.Need-returns-in_default
+returns-in_default c =
+    let a = c.before.before.before.before.before.args in
+    read_unsound a.out.now _ _
+    (content_nowhere (body_ground a.body.now a.mark) a.word (sym c.before.before.unpack8-got.ensures
+    ∙ ap unpack_answer c.enum_told-1.given.1)) refl
+
+read_place-requires : tie.Need-read_place-requires
+read_place-requires c κs = search rules
+
+shape_of-out : tie.Need-shape_of-out
+shape_of-out c = search rules
 
 returns : tie.Need-returns
 returns c =
-    let a = c.before.before.before.before.before.args in
-    read_unsound a.out.now _ _
-    (content_nowhere (body_ground a.body.now a.mark) a.word (sym c.before.before.unpack8.ensures
-    ∙ ap unpack_answer c.enum_told.given.1)) refl
-
-read-place-requires : tie.Need-read-place-requires
-read-place-requires c κs = search rules
-
-same_length : tie.Need-same-length
-same_length c = search rules
-
-returns-2 : tie.Need-returns-2
-returns-2 c =
     let g = c.before.before.before.before.before in
     let a = g.before.before.before.before.before.args in
-    let r = c.before.before.read-place in
-    let told = content_at_lem (body_ground a.body.now a.mark) a.word g.got.given.0.0 (sym g.before.before.unpack8.ensures
-    ∙ ap unpack_answer g.got.given.1) in
+    let r = c.before.before.read_place in
+    let told = content_at_lem (body_ground a.body.now a.mark) a.word g.got-1.given.0.0 (sym g.before.before.unpack8-got.ensures
+    ∙ ap unpack_answer g.got-1.given.1) in
     subst (λ (x : Answer Content). KeyRead (counts_answer r.result) a.out.now r.new.1.1.1.0 x) (sym told) r.ensures
 
-pub read-key-spec : {M : Type 1} → statement M
-read-key-spec =
+pub read_key_spec : {M : Type 1} → statement M
+read_key_spec =
     tie.close
     (tie.spec
-    unpack8-requires
-    enum-known-got
-    enum_told
-    returns
-    read-place-requires
-    same_length
-    returns-2)
+    unpack8-got-requires
+    enum_known-got
+    enum_told-1
+    returns-in_default
+    read_place-requires
+    shape_of-out
+    returns)

@@ -24,76 +24,76 @@ by_place : (s : Ground) (told : Answer Counts) (before after : List ℕ) {place 
     → KeyRead told before after (soundly (content_at s is)) → KeyRead told before after (soundly (content_at s place))
 by_place s told before after e h = subst (λ (p : ShHeadValue). KeyRead told before after (soundly (content_at s p))) (sym e) h
 
-enum_told : tie.Need-enum-told
-enum_told c = search rules
+enum_told-1 : tie.Need-enum_told-1
+enum_told-1 c = search rules
 
-enum-known-place : tie.Need-enum-known-place
-enum-known-place c = search rules
+enum_known-place : tie.Need-enum_known-place
+enum_known-place c = search rules
 
-read-inline-requires : tie.Need-read-inline-requires
-read-inline-requires c κs = search rules
+read_inline-requires : tie.Need-read_inline-requires
+read_inline-requires c κs = search rules
 
-enum-known-place-2 : tie.Need-enum-known-place-2
-enum-known-place-2 c = search rules
+enum_known-place-in-Slab-1 : tie.Need-enum_known-place-in-Slab-1
+enum_known-place-in-Slab-1 c = search rules
 
-read-stored-requires : tie.Need-read-stored-requires
-read-stored-requires c κs = search rules
+read_stored-requires : tie.Need-read_stored-requires
+read_stored-requires c κs = search rules
 
-enum-known-place-3 : tie.Need-enum-known-place-3
-enum-known-place-3 c = search rules
+enum_known-place-in-Extent-1 : tie.Need-enum_known-place-in-Extent-1
+enum_known-place-in-Extent-1 c = search rules
 
-read-chain-requires : tie.Need-read-chain-requires
-read-chain-requires c κs = search rules
+read_chain-requires : tie.Need-read_chain-requires
+read_chain-requires c κs = search rules
 
-returns : tie.Need-returns
-returns c =
+returns-in-Empty : tie.Need-returns-in-Empty
+returns-in-Empty c =
     let a = c.before.before.before.before.args in
-    by_place (space_of c.before.before.before.before) _ a.out.now _ c.enum_told.given.1
+    by_place (space_of c.before.before.before.before) _ a.out.now _ c.enum_told-1.given.1
     (read_listed a.out.now _ _ _ (soundly_yes _ (content_empty (space_of c.before.before.before.before))) _ refl (omega arith)
     (sym (overwrite_nil a.out.now 0)))
 
-same_length : tie.Need-same-length
-same_length c = search rules
+shape_of-out-in-Inline : tie.Need-shape_of-out-in-Inline
+shape_of-out-in-Inline c = search rules
 
-returns-2 : tie.Need-returns-2
-returns-2 c =
+returns-in-Inline : tie.Need-returns-in-Inline
+returns-in-Inline c =
     let t = c.before.before.before.before.before.before.before.before.before in
-    by_place (space_of t) _ t.args.out.now _ c.before.before.before.before.before.place.given.1
-    (c.before.before.read-inline.ensures (space_of t) _)
+    by_place (space_of t) _ t.args.out.now _ c.before.before.before.before.before.place-1.given.1
+    (c.before.before.read_inline.ensures (space_of t) _)
 
-same-length-2 : tie.Need-same-length-2
-same-length-2 c = search rules
+shape_of-out-in-Slab : tie.Need-shape_of-out-in-Slab
+shape_of-out-in-Slab c = search rules
 
-returns-3 : tie.Need-returns-3
-returns-3 c =
+returns-in-Slab : tie.Need-returns-in-Slab
+returns-in-Slab c =
     let t = c.before.before.before.before.before.before.before.before.before in
-    by_place (space_of t) _ t.args.out.now _ c.before.before.before.before.before.place2.given.1
-    c.before.before.read-stored.ensures
+    by_place (space_of t) _ t.args.out.now _ c.before.before.before.before.before.place-in-Slab-1.given.1
+    c.before.before.read_stored.ensures
 
-same-length-3 : tie.Need-same-length-3
-same-length-3 c = search rules
+shape_of-out-in-Extent : tie.Need-shape_of-out-in-Extent
+shape_of-out-in-Extent c = search rules
 
-returns-4 : tie.Need-returns-4
-returns-4 c =
+returns-in-Extent : tie.Need-returns-in-Extent
+returns-in-Extent c =
     let t = c.before.before.before.before.before.before.before.before.before in
-    by_place (space_of t) _ t.args.out.now _ c.before.before.before.before.before.place3.given.1
-    c.before.before.read-chain.ensures
+    by_place (space_of t) _ t.args.out.now _ c.before.before.before.before.before.place-in-Extent-1.given.1
+    c.before.before.read_chain.ensures
 
-pub read-place-spec : {M : Type 1} → statement M
-read-place-spec =
+pub read_place_spec : {M : Type 1} → statement M
+read_place_spec =
     tie.close
     (tie.spec
-    enum_told
-    enum-known-place
-    read-inline-requires
-    enum-known-place-2
-    read-stored-requires
-    enum-known-place-3
-    read-chain-requires
-    returns
-    same_length
-    returns-2
-    same-length-2
-    returns-3
-    same-length-3
-    returns-4)
+    enum_told-1
+    enum_known-place
+    read_inline-requires
+    enum_known-place-in-Slab-1
+    read_stored-requires
+    enum_known-place-in-Extent-1
+    read_chain-requires
+    returns-in-Empty
+    shape_of-out-in-Inline
+    returns-in-Inline
+    shape_of-out-in-Slab
+    returns-in-Slab
+    shape_of-out-in-Extent
+    returns-in-Extent)

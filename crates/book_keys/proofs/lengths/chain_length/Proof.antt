@@ -20,30 +20,30 @@ module _ (t : tie.Start) where
   abbrev chain : Answer Chain
   chain = chain_at s t.args.last
 
-chain-end-requires : tie.Need-chain-end-requires
-chain-end-requires c κs = search rules
+chain_end-end-requires : tie.Need-chain_end-end-requires
+chain_end-end-requires c κs = search rules
 
-enum-known-end : tie.Need-enum-known-end
-enum-known-end c = search rules
+enum_known-end : tie.Need-enum_known-end
+enum_known-end c = search rules
 
-enum_told : tie.Need-enum-told
-enum_told c = search rules
+enum_told-1 : tie.Need-enum_told-1
+enum_told-1 c = search rules
+
+returns-in_default : tie.Need-returns-in_default
+returns-in_default c =
+    let e = c.before.before in
+    let t = e.before.before in
+    let stop = was_refused (chain_end_of false) (soundly (chain t)) (sym e.chain_end-end.ensures ∙ ap chain_answer c.enum_told-1.given.1) in
+    sym (answered_no length_of _ (soundly_no _ (content_no_pages (s t) t.args.last (was_unsound (chain t) stop).1)))
 
 returns : tie.Need-returns
 returns c =
-    let e = c.before.before in
-    let t = e.before.before in
-    let stop = was_refused (chain_end_of false) (soundly (chain t)) (sym e.chain-end.ensures ∙ ap chain_answer c.enum_told.given.1) in
-    sym (answered_no length_of _ (soundly_no _ (content_no_pages (s t) t.args.last (was_unsound (chain t) stop).1)))
-
-returns-2 : tie.Need-returns-2
-returns-2 c =
     let g = c.before in
     let e = g.before.before in
     let t = e.before.before in
-    let got = was_accepted (chain_end_of false) (soundly (chain t)) (sym e.chain-end.ensures ∙ ap chain_answer g.end.given.1) in
+    let got = was_accepted (chain_end_of false) (soundly (chain t)) (sym e.chain_end-end.ensures ∙ ap chain_answer g.end-1.given.1) in
     ap (λ (x : ChainEndOf). accepted x.length) (sym got.2)
     ∙ sym (answered_yes length_of _ (soundly_yes _ (content_pages (s t) t.args.last got.0 (was_sound (chain t) got.1))))
 
-pub chain-length-spec : {M : Type 1} → statement M
-chain-length-spec = tie.close (tie.spec chain-end-requires enum-known-end enum_told returns returns-2)
+pub chain_length_spec : {M : Type 1} → statement M
+chain_length_spec = tie.close (tie.spec chain_end-end-requires enum_known-end enum_told-1 returns-in_default returns)

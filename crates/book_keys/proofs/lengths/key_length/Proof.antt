@@ -14,33 +14,33 @@ use Rattle.book_keys.proofs.lengths.key_length.Tie as tie
 abbrev ground_of : tie.Start → Ground
 ground_of t = body_ground t.args.body.now t.args.mark
 
-unpack8-requires : tie.Need-unpack8-requires
-unpack8-requires c κs = search rules
+unpack8-got-requires : tie.Need-unpack8-got-requires
+unpack8-got-requires c κs = search rules
 
-enum-known-got : tie.Need-enum-known-got
-enum-known-got c = search rules
+enum_known-got : tie.Need-enum_known-got
+enum_known-got c = search rules
 
-enum_told : tie.Need-enum-told
-enum_told c = search rules
+enum_told-1 : tie.Need-enum_told-1
+enum_told-1 c = search rules
 
-returns : tie.Need-returns
-returns c =
+returns-in_default : tie.Need-returns-in_default
+returns-in_default c =
     let u = c.before.before in
     let t = u.before.before in
     sym (answered_no length_of _
-    (content_nowhere (ground_of t) t.args.word (sym u.unpack8.ensures ∙ ap unpack_answer c.enum_told.given.1)))
+    (content_nowhere (ground_of t) t.args.word (sym u.unpack8-got.ensures ∙ ap unpack_answer c.enum_told-1.given.1)))
 
-place-length-requires : tie.Need-place-length-requires
-place-length-requires c κs = search rules
+place_length-requires : tie.Need-place_length-requires
+place_length-requires c κs = search rules
 
-returns-2 : tie.Need-returns-2
-returns-2 c =
+returns : tie.Need-returns
+returns c =
     let g = c.before.before in
     let u = g.before.before in
     let t = u.before.before in
     c.place_length.ensures
     ∙ ap (answered length_of)
-    (sym (content_at_lem (ground_of t) t.args.word g.got.given.0.0 (sym u.unpack8.ensures ∙ ap unpack_answer g.got.given.1)))
+    (sym (content_at_lem (ground_of t) t.args.word g.got-1.given.0.0 (sym u.unpack8-got.ensures ∙ ap unpack_answer g.got-1.given.1)))
 
-pub key-length-spec : {M : Type 1} → statement M
-key-length-spec = tie.close (tie.spec unpack8-requires enum-known-got enum_told returns place-length-requires returns-2)
+pub key_length_spec : {M : Type 1} → statement M
+key_length_spec = tie.close (tie.spec unpack8-got-requires enum_known-got enum_told-1 returns-in_default place_length-requires returns)

@@ -21,56 +21,56 @@ by_place : (s : Ground) {told : Answer ℕ} {place is : ShHeadValue} → place �
     → told ≡ answered length_of (soundly (content_at s is)) → told ≡ answered length_of (soundly (content_at s place))
 by_place s e h = h ∙ ap (λ (p : ShHeadValue). answered length_of (soundly (content_at s p))) (sym e)
 
-enum_told : tie.Need-enum-told
-enum_told c = search rules
+enum_told-1 : tie.Need-enum_told-1
+enum_told-1 c = search rules
 
-enum-told-2 : tie.Need-enum-told-2
-enum-told-2 c = search rules
+enum_told-in-Inline : tie.Need-enum_told-in-Inline
+enum_told-in-Inline c = search rules
 
-enum-known-place : tie.Need-enum-known-place
-enum-known-place c = search rules
+enum_known-place : tie.Need-enum_known-place
+enum_known-place c = search rules
 
-slab-length-requires : tie.Need-slab-length-requires
-slab-length-requires c κs = search rules
+slab_length-requires : tie.Need-slab_length-requires
+slab_length-requires c κs = search rules
 
-enum-known-place-2 : tie.Need-enum-known-place-2
-enum-known-place-2 c = search rules
+enum_known-place-in-Extent-1 : tie.Need-enum_known-place-in-Extent-1
+enum_known-place-in-Extent-1 c = search rules
 
-chain-length-requires : tie.Need-chain-length-requires
-chain-length-requires c κs = search rules
+chain_length-requires : tie.Need-chain_length-requires
+chain_length-requires c κs = search rules
 
-returns : tie.Need-returns
-returns c =
+returns-in-Empty : tie.Need-returns-in-Empty
+returns-in-Empty c =
     let s = ground_of c.before.before.before in
-    by_place s c.enum_told.given.1 (sym (answered_yes length_of _ (soundly_yes _ (content_empty s))))
+    by_place s c.enum_told-1.given.1 (sym (answered_yes length_of _ (soundly_yes _ (content_empty s))))
 
-returns-2 : tie.Need-returns-2
-returns-2 c =
+returns-in-Inline : tie.Need-returns-in-Inline
+returns-in-Inline c =
     let s = ground_of c.before.before.before in
-    by_place s c.enum-told2.given.1
-    (sym (answered_yes length_of _ (soundly_yes _ (content_inline s c.enum-told2.given.0.0 c.enum-told2.given.0.1.0))))
+    by_place s c.enum_told-in-Inline-1.given.1
+    (sym (answered_yes length_of _ (soundly_yes _ (content_inline s c.enum_told-in-Inline-1.given.0.0 c.enum_told-in-Inline-1.given.0.1.0))))
 
-returns-3 : tie.Need-returns-3
-returns-3 c =
+returns-in-Slab : tie.Need-returns-in-Slab
+returns-in-Slab c =
     let p = c.before.before in
-    by_place (ground_of p.before.before.before) p.place.given.1 c.slab-length.ensures
+    by_place (ground_of p.before.before.before) p.place-1.given.1 c.slab_length.ensures
 
-returns-4 : tie.Need-returns-4
-returns-4 c =
+returns-in-Extent : tie.Need-returns-in-Extent
+returns-in-Extent c =
     let p = c.before.before in
-    by_place (ground_of p.before.before.before) p.place2.given.1 c.Chain-length.ensures
+    by_place (ground_of p.before.before.before) p.place-in-Extent-1.given.1 c.Chain-length.ensures
 
-pub place-length-spec : {M : Type 1} → statement M
-place-length-spec =
+pub place_length_spec : {M : Type 1} → statement M
+place_length_spec =
     tie.close
     (tie.spec
-    enum_told
-    enum-told-2
-    enum-known-place
-    slab-length-requires
-    enum-known-place-2
-    chain-length-requires
-    returns
-    returns-2
-    returns-3
-    returns-4)
+    enum_told-1
+    enum_told-in-Inline
+    enum_known-place
+    slab_length-requires
+    enum_known-place-in-Extent-1
+    chain_length-requires
+    returns-in-Empty
+    returns-in-Inline
+    returns-in-Slab
+    returns-in-Extent)

@@ -21,32 +21,32 @@ module _ (t : tie.Start) where
   abbrev scan : Answer Scan
   scan = slab_scan s t.args.class t.args.used t.args.off
 
-slab-end-requires : tie.Need-slab-end-requires
-slab-end-requires c κs = search rules
+slab_end-end-requires : tie.Need-slab_end-end-requires
+slab_end-end-requires c κs = search rules
 
-enum_told : tie.Need-enum-told
-enum_told c = search rules
+enum_told-1 : tie.Need-enum_told-1
+enum_told-1 c = search rules
 
-enum-told-2 : tie.Need-enum-told-2
-enum-told-2 c = search rules
+enum_told-in_default : tie.Need-enum_told-in_default
+enum_told-in_default c = search rules
+
+returns-in_default : tie.Need-returns-in_default
+returns-in_default c =
+    let e = c.before.before in
+    let t = e.before.before in
+    let a = t.args in
+    let stop = was_refused (end_from 0) (soundly (scan t)) (sym e.slab_end-end.ensures ∙ ap scan_answer c.enum_told-in_default-1.given.1) in
+    sym (answered_no length_of _ (soundly_no _ (content_no_slab (s t) a.class a.used a.off (was_unsound (scan t) stop).1)))
 
 returns : tie.Need-returns
 returns c =
     let e = c.before.before in
     let t = e.before.before in
     let a = t.args in
-    let stop = was_refused (end_from 0) (soundly (scan t)) (sym e.slab-end.ensures ∙ ap scan_answer c.enum-told2.given.1) in
-    sym (answered_no length_of _ (soundly_no _ (content_no_slab (s t) a.class a.used a.off (was_unsound (scan t) stop).1)))
-
-returns-2 : tie.Need-returns-2
-returns-2 c =
-    let e = c.before.before in
-    let t = e.before.before in
-    let a = t.args in
-    let got = was_accepted (end_from 0) (soundly (scan t)) (sym e.slab-end.ensures ∙ ap scan_answer c.enum_told.given.1) in
+    let got = was_accepted (end_from 0) (soundly (scan t)) (sym e.slab_end-end.ensures ∙ ap scan_answer c.enum_told-1.given.1) in
     let is : scan t ≡ accepted got.0 = was_sound (scan t) got.1 in
     ap accepted (sym (slab_sound (s t) a.class a.used a.off got.0 is).counted)
     ∙ sym (answered_yes length_of _ (soundly_yes _ (content_slab (s t) a.class a.used a.off got.0 is)))
 
-pub slab-length-spec : {M : Type 1} → statement M
-slab-length-spec = tie.close (tie.spec slab-end-requires enum_told enum-told-2 returns returns-2)
+pub slab_length_spec : {M : Type 1} → statement M
+slab_length_spec = tie.close (tie.spec slab_end-end-requires enum_told-1 enum_told-in_default returns-in_default returns)

@@ -13,26 +13,26 @@ use Rattle.book_keys.proofs.LawsSlab.{slab_payload_lem}
 use Rattle.book_keys.proofs.slab.fill_slab.Statement.{statement}
 use Rattle.book_keys.proofs.slab.fill_slab.Tie as tie
 
-get-u16-requires : tie.Need-get-u16-requires
-get-u16-requires c κs = search rules
+get_u16-used-requires : tie.Need-get_u16-used-requires
+get_u16-used-requires c κs = search rules
 
-cast-used : tie.Need-overflow-cast-used
-cast-used c = search rules
+overflow_cast-used : tie.Need-overflow_cast-used
+overflow_cast-used c = search rules
 
-sub-fill-fk-delta-stream : tie.Need-overflow-sub-fill-fk-delta-stream
-sub-fill-fk-delta-stream c = search rules
+slice_bounds-fill_fk_delta_stream-count : tie.Need-slice_bounds-fill_fk_delta_stream-count
+slice_bounds-fill_fk_delta_stream-count c = search rules
 
-part-fill-fk-delta-stream-start : tie.Need-slice-bounds-fill-fk-delta-stream-start
-part-fill-fk-delta-stream-start c = search rules
+slice_bounds-fill_fk_delta_stream-start : tie.Need-slice_bounds-fill_fk_delta_stream-start
+slice_bounds-fill_fk_delta_stream-start c = search rules
 
-part-fill-fk-delta-stream-end : tie.Need-slice-bounds-fill-fk-delta-stream-end
-part-fill-fk-delta-stream-end c = search rules
+slice_bounds-fill_fk_delta_stream-end : tie.Need-slice_bounds-fill_fk_delta_stream-end
+slice_bounds-fill_fk_delta_stream-end c = search rules
 
-fill-fk-delta-stream-requires : tie.Need-fill-fk-delta-stream-requires
-fill-fk-delta-stream-requires c κs = search rules
+fill_fk_delta_stream-requires : tie.Need-fill_fk_delta_stream-requires
+fill_fk_delta_stream-requires c κs = search rules
 
-same_length : tie.Need-same-length
-same_length c = search rules
+shape_of-out : tie.Need-shape_of-out
+shape_of-out c = search rules
 
 returns : tie.Need-returns
 returns c used read e h =
@@ -41,20 +41,20 @@ returns c used read e h =
     let a = g.before.before.before.args in
     let slab = a.slab.now in
     let p = (slab_payload_lem slab used read e).2 in
-    let same : g.get-u16.result ≡ slab_used slab = g.get-u16.ensures in
-    let reads : scan g.get-u16.result (drop 2 slab) ≡ accepted read = ap (λ (n : ℕ). scan n (drop 2 slab)) same ∙ p.scanned in
-    d.fill-fk-delta-stream.ensures read (ap (λ (bs : List ℕ). scan g.get-u16.result bs) (part_to_end slab 2) ∙ reads)
+    let same : g.get_u16-used.result ≡ slab_used slab = g.get_u16-used.ensures in
+    let reads : scan g.get_u16-used.result (drop 2 slab) ≡ accepted read = ap (λ (n : ℕ). scan n (drop 2 slab)) same ∙ p.scanned in
+    d.fill_fk_delta_stream.ensures read (ap (λ (bs : List ℕ). scan g.get_u16-used.result bs) (part_to_end slab 2) ∙ reads)
     (omega (arith, same, p.counted, h))
 
-pub fill-slab-spec : {M : Type 1} → statement M
-fill-slab-spec =
+pub fill_slab_spec : {M : Type 1} → statement M
+fill_slab_spec =
     tie.close
     (tie.spec
-    get-u16-requires
-    cast-used
-    sub-fill-fk-delta-stream
-    part-fill-fk-delta-stream-start
-    part-fill-fk-delta-stream-end
-    fill-fk-delta-stream-requires
-    same_length
+    get_u16-used-requires
+    overflow_cast-used
+    slice_bounds-fill_fk_delta_stream-count
+    slice_bounds-fill_fk_delta_stream-start
+    slice_bounds-fill_fk_delta_stream-end
+    fill_fk_delta_stream-requires
+    shape_of-out
     returns)

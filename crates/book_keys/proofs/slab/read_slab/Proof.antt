@@ -17,7 +17,7 @@ use Rattle.book_keys.proofs.slab.read_slab.Statement.{statement}
 use Rattle.book_keys.proofs.slab.read_slab.Tie as tie
 
 -- the bytes behind the count were scanned
-module _ (c : tie.After-scan-fk-delta-stream) where
+module _ (c : tie.After-scan_fk_delta_stream-got) where
   abbrev at : tie.Start
   at = c.before.before.before.before.before.before
 
@@ -32,87 +32,87 @@ module _ (c : tie.After-scan-fk-delta-stream) where
 
   is : slab_read slab used ≡ last_sound scanned
   is =
-      slab_by_scan slab used c.before.before.before.before.if1.false
-      (sym c.before.before.before.get-u16.ensures ∙ c.before.before.if2.false) at.pre
+      slab_by_scan slab used c.before.before.before.before.if-used-gt-SLAB_MOST.false
+      (sym c.before.before.before.get_u16.ensures ∙ c.before.before.if-get_u16-used.false) at.pre
 
-  ends : scan_answer c.scan-fk-delta-stream.result ≡ answered (end_from 0) scanned
-  ends = c.scan-fk-delta-stream.ensures ∙ ap (λ (bs : List ℕ). answered (end_from 0) (scan used bs)) (part_to_end slab 2)
+  ends : scan_answer c.scan_fk_delta_stream-got.result ≡ answered (end_from 0) scanned
+  ends = c.scan_fk_delta_stream-got.ensures ∙ ap (λ (bs : List ℕ). answered (end_from 0) (scan used bs)) (part_to_end slab 2)
 
 -- it scans
-module _ (c : tie.After-sound-last) where
-  abbrev back : tie.After-scan-fk-delta-stream
+module _ (c : tie.After-sound_last) where
+  abbrev back : tie.After-scan_fk_delta_stream-got
   back = c.before.before.before.before
 
   abbrev end : End
-  end = record { taken = c.before.before.got.given.0.0; last = c.before.before.got.given.0.1.0 }
+  end = record { taken = c.before.before.got-1.given.0.0; last = c.before.before.got-1.given.0.1.0 }
 
   end_is : answered (end_from 0) (scanned back) ≡ accepted end
-  end_is = sym (ends back) ∙ ap scan_answer c.before.before.got.given.1
+  end_is = sym (ends back) ∙ ap scan_answer c.before.before.got-1.given.1
 
-returns : tie.Need-returns
-returns c = turned_back (end_from 0) _ (slab_many c.before.before.args.slab.now c.before.before.args.used c.if1.true)
+returns-then-used-gt-SLAB_MOST : tie.Need-returns-then-used-gt-SLAB_MOST
+returns-then-used-gt-SLAB_MOST c = turned_back (end_from 0) _ (slab_many c.before.before.args.slab.now c.before.before.args.used c.if-used-gt-SLAB_MOST.true)
 
-get-u16-requires : tie.Need-get-u16-requires
-get-u16-requires c κs = search rules
+get_u16-requires : tie.Need-get_u16-requires
+get_u16-requires c κs = search rules
 
-returns-2 : tie.Need-returns-2
-returns-2 c =
+returns-then-get_u16-used : tie.Need-returns-then-get_u16-used
+returns-then-get_u16-used c =
     let a = c.before.before.before.before.args in
     turned_back (end_from 0) _
-    (slab_other a.slab.now a.used c.before.before.if1.false (λ e. c.if2.true (c.before.get-u16.ensures ∙ e)))
+    (slab_other a.slab.now a.used c.before.before.if-used-gt-SLAB_MOST.false (λ e. c.if-get_u16-used.true (c.before.get_u16.ensures ∙ e)))
 
-sub-scan-fk-delta-stream : tie.Need-overflow-sub-scan-fk-delta-stream
-sub-scan-fk-delta-stream c = search rules
+slice_bounds-scan_fk_delta_stream-count : tie.Need-slice_bounds-scan_fk_delta_stream-count
+slice_bounds-scan_fk_delta_stream-count c = search rules
 
-part-scan-fk-delta-stream-start : tie.Need-slice-bounds-scan-fk-delta-stream-start
-part-scan-fk-delta-stream-start c = search rules
+slice_bounds-scan_fk_delta_stream-start : tie.Need-slice_bounds-scan_fk_delta_stream-start
+slice_bounds-scan_fk_delta_stream-start c = search rules
 
-part-scan-fk-delta-stream-end : tie.Need-slice-bounds-scan-fk-delta-stream-end
-part-scan-fk-delta-stream-end c = search rules
+slice_bounds-scan_fk_delta_stream-end : tie.Need-slice_bounds-scan_fk_delta_stream-end
+slice_bounds-scan_fk_delta_stream-end c = search rules
 
-scan-fk-delta-stream-requires : tie.Need-scan-fk-delta-stream-requires
-scan-fk-delta-stream-requires c κs = search rules
+scan_fk_delta_stream-got-requires : tie.Need-scan_fk_delta_stream-got-requires
+scan_fk_delta_stream-got-requires c κs = search rules
 
-enum-known-got : tie.Need-enum-known-got
-enum-known-got c = search rules
+enum_known-got : tie.Need-enum_known-got
+enum_known-got c = search rules
 
-enum_told : tie.Need-enum-told
-enum_told c = search rules
+enum_told-1 : tie.Need-enum_told-1
+enum_told-1 c = search rules
 
-returns-3 : tie.Need-returns-3
-returns-3 c =
+returns-in_default : tie.Need-returns-in_default
+returns-in_default c =
     let d = c.before.before in
-    turned_back (end_from 0) _ (is d ∙ end_refused (scanned d) (sym (ends d) ∙ ap scan_answer c.enum_told.given.1))
+    turned_back (end_from 0) _ (is d ∙ end_refused (scanned d) (sym (ends d) ∙ ap scan_answer c.enum_told-1.given.1))
 
-sound-last-requires : tie.Need-sound-last-requires
-sound-last-requires c κs = search rules
+sound_last-requires : tie.Need-sound_last-requires
+sound_last-requires c κs = search rules
 
-returns-4 : tie.Need-returns-4
-returns-4 c =
+returns-then-not-sound_last : tie.Need-returns-then-not-sound_last
+returns-then-not-sound_last c =
     let d = c.before in
     turned_back (end_from 0) _ (is (back d) ∙ end_unsound (scanned (back d)) (end d) (end_is d)
-    (sym d.sound-last.ensures ∙ not-true _ c.if3.true))
+    (sym d.sound_last.ensures ∙ not-true _ c.if-not-sound_last.true))
 
-returns-5 : tie.Need-returns-5
-returns-5 c =
+returns : tie.Need-returns
+returns c =
     let d = c.before in
-    let got = end_sound (scanned (back d)) (end d) (end_is d) (sym d.sound-last.ensures ∙ not-false _ c.if3.false) in
+    let got = end_sound (scanned (back d)) (end d) (end_is d) (sym d.sound_last.ensures ∙ not-false _ c.if-not-sound_last.false) in
     ap accepted (sym got.3) ∙ let_through (end_from 0) _ (is (back d) ∙ got.2)
 
-pub read-slab-spec : {M : Type 1} → statement M
-read-slab-spec =
+pub read_slab_spec : {M : Type 1} → statement M
+read_slab_spec =
     tie.close
     (tie.spec
-    returns
-    get-u16-requires
-    returns-2
-    sub-scan-fk-delta-stream
-    part-scan-fk-delta-stream-start
-    part-scan-fk-delta-stream-end
-    scan-fk-delta-stream-requires
-    enum-known-got
-    enum_told
-    returns-3
-    sound-last-requires
-    returns-4
-    returns-5)
+    returns-then-used-gt-SLAB_MOST
+    get_u16-requires
+    returns-then-get_u16-used
+    slice_bounds-scan_fk_delta_stream-count
+    slice_bounds-scan_fk_delta_stream-start
+    slice_bounds-scan_fk_delta_stream-end
+    scan_fk_delta_stream-got-requires
+    enum_known-got
+    enum_told-1
+    returns-in_default
+    sound_last-requires
+    returns-then-not-sound_last
+    returns)

@@ -20,7 +20,7 @@ use Rattle.book_keys.proofs.slab.read_stored.Tie as tie
 use Rattle.book_keys.specs.Keys.{Ground, body_ground}
 
 -- the slab stands, and its size was computed
-module _ (c : tie.After-slab-bytes) where
+module _ (c : tie.After-slab_bytes) where
   abbrev at : tie.Start
   at = c.before.before.before.before.before
 
@@ -37,71 +37,71 @@ module _ (c : tie.After-slab-bytes) where
   off = at.args.off
 
   stands : is_slab class off at.args.mark ≡ true
-  stands = sym c.before.before.slab_stands.ensures ∙ not-false _ c.before.if1.false
+  stands = sym c.before.before.slab_stands.ensures ∙ not-false _ c.before.if-not-slab_stands.false
 
-  size : c.slab-bytes.result ≡ slab_bytes class
-  size = slab_size class _ (slab_lies class off at.args.mark stands).0 c.slab-bytes.ensures
+  size : c.slab_bytes.result ≡ slab_bytes class
+  size = slab_size class _ (slab_lies class off at.args.mark stands).0 c.slab_bytes.ensures
 
-  inside : off + c.slab-bytes.result ≤ length body
+  inside : off + c.slab_bytes.result ≤ length body
   inside =
       let b = block_stands class off at.args.mark (slab_lies class off at.args.mark stands).1 in
       let e = size in
       omega (arith, b.ends, at.pre)
 
-slab-stands-requires : tie.Need-slab-stands-requires
-slab-stands-requires c κs = search rules
+slab_stands-requires : tie.Need-slab_stands-requires
+slab_stands-requires c κs = search rules
 
-returns : tie.Need-returns
-returns c =
+returns-then-not-slab_stands : tie.Need-returns-then-not-slab_stands
+returns-then-not-slab_stands c =
     let a = c.before.before.before.before.args in
     let s = body_ground a.body.now a.mark in
-    let stop = slab_no s a.class a.used a.off (sym c.before.slab_stands.ensures ∙ not-true _ c.if1.true) in
+    let stop = slab_no s a.class a.used a.off (sym c.before.slab_stands.ensures ∙ not-true _ c.if-not-slab_stands.true) in
     read_unsound a.out.now _ _ (soundly_no _ (content_no_slab s a.class a.used a.off stop)) refl
 
-slab-bytes-requires : tie.Need-slab-bytes-requires
-slab-bytes-requires c κs = search rules
+slab_bytes-requires : tie.Need-slab_bytes-requires
+slab_bytes-requires c κs = search rules
 
-add-end : tie.Need-overflow-add-end
-add-end c = let h = inside c in omega arith
+overflow_add-end : tie.Need-overflow_add-end
+overflow_add-end c = let h = inside c in omega arith
 
-sub-slab-list : tie.Need-overflow-sub-slab-list
-sub-slab-list c = search rules
+slice_bounds-slab_list-count : tie.Need-slice_bounds-slab_list-count
+slice_bounds-slab_list-count c = search rules
 
-part-slab-list-start : tie.Need-slice-bounds-slab-list-start
-part-slab-list-start c = search rules
+slice_bounds-slab_list-start : tie.Need-slice_bounds-slab_list-start
+slice_bounds-slab_list-start c = search rules
 
-part-slab-list-end : tie.Need-slice-bounds-slab-list-end
-part-slab-list-end c = inside c
+slice_bounds-slab_list-end : tie.Need-slice_bounds-slab_list-end
+slice_bounds-slab_list-end c = inside c
 
-slab-list-requires : tie.Need-slab-list-requires
-slab-list-requires c κs =
+slab_list-requires : tie.Need-slab_list-requires
+slab_list-requires c κs =
     let d = c.before.before in
     let h = inside d in
     let e = size d in
     simp (length-take, length-drop) (omega (arith, bytes_from_16 (class d)))
 
-same_length : tie.Need-same-length
-same_length c = search rules
+shape_of-out : tie.Need-shape_of-out
+shape_of-out c = search rules
 
-returns-2 : tie.Need-returns-2
-returns-2 c =
+returns : tie.Need-returns
+returns c =
     let d = c.before.before.before.before.before in
     let used = (at d).args.used in
-    let bytes = span (body d) (off d) d.slab-bytes.result (slab_bytes (class d)) (size d) in
-    c.before.before.slab-list.ensures (s d) (class d) (off d)
+    let bytes = span (body d) (off d) d.slab_bytes.result (slab_bytes (class d)) (size d) in
+    c.before.before.slab_list.ensures (s d) (class d) (off d)
     (slab_yes (s d) (class d) used (off d) (stands d) ∙ sym (ap (λ (bs : List ℕ). slab_read bs used) bytes)) (sym bytes)
 
-pub read-stored-spec : {M : Type 1} → statement M
-read-stored-spec =
+pub read_stored_spec : {M : Type 1} → statement M
+read_stored_spec =
     tie.close
     (tie.spec
-    slab-stands-requires
-    returns
-    slab-bytes-requires
-    add-end
-    sub-slab-list
-    part-slab-list-start
-    part-slab-list-end
-    slab-list-requires
-    same_length
-    returns-2)
+    slab_stands-requires
+    returns-then-not-slab_stands
+    slab_bytes-requires
+    overflow_add-end
+    slice_bounds-slab_list-count
+    slice_bounds-slab_list-start
+    slice_bounds-slab_list-end
+    slab_list-requires
+    shape_of-out
+    returns)

@@ -11,54 +11,54 @@ use Rattle.book_keys.proofs.LawsListed.{short_slab}
 use Rattle.book_keys.proofs.slab.short_slab.Statement.{statement}
 use Rattle.book_keys.proofs.slab.short_slab.Tie as tie
 
+returns-then-used-gt-SLAB_MOST : tie.Need-returns-then-used-gt-SLAB_MOST
+returns-then-used-gt-SLAB_MOST c = unread refl refl
+
+get_u16-requires : tie.Need-get_u16-requires
+get_u16-requires c κs = search rules
+
+returns-then-get_u16-used : tie.Need-returns-then-get_u16-used
+returns-then-get_u16-used c = unread refl refl
+
+slice_bounds-read_short_stream-count : tie.Need-slice_bounds-read_short_stream-count
+slice_bounds-read_short_stream-count c = search rules
+
+slice_bounds-read_short_stream-start : tie.Need-slice_bounds-read_short_stream-start
+slice_bounds-read_short_stream-start c = search rules
+
+slice_bounds-read_short_stream-end : tie.Need-slice_bounds-read_short_stream-end
+slice_bounds-read_short_stream-end c = search rules
+
+read_short_stream-requires : tie.Need-read_short_stream-requires
+read_short_stream-requires c κs = search rules
+
+shape_of-out : tie.Need-shape_of-out
+shape_of-out c = search rules
+
 returns : tie.Need-returns
-returns c = unread refl refl
-
-get-u16-requires : tie.Need-get-u16-requires
-get-u16-requires c κs = search rules
-
-returns-2 : tie.Need-returns-2
-returns-2 c = unread refl refl
-
-sub-read-short-stream : tie.Need-overflow-sub-read-short-stream
-sub-read-short-stream c = search rules
-
-part-read-short-stream-start : tie.Need-slice-bounds-read-short-stream-start
-part-read-short-stream-start c = search rules
-
-part-read-short-stream-end : tie.Need-slice-bounds-read-short-stream-end
-part-read-short-stream-end c = search rules
-
-read-short-stream-requires : tie.Need-read-short-stream-requires
-read-short-stream-requires c κs = search rules
-
-same_length : tie.Need-same-length
-same_length c = search rules
-
-returns-3 : tie.Need-returns-3
-returns-3 c =
+returns c =
     let d = c.before.before in
     let e = d.before.before.before in
     let g = e.before in
     let f = g.before in
     let t = f.before.before.before in
     let a = t.args in
-    let told = d.read-short-stream.result in
-    let after = d.read-short-stream.new.1.1.1.0 in
-    short_slab a.slab.now a.used told a.out.now after f.if1.false (sym g.get-u16.ensures ∙ e.if2.false) t.requires
+    let told = d.read_short_stream.result in
+    let after = d.read_short_stream.new.1.1.1.0 in
+    short_slab a.slab.now a.used told a.out.now after f.if-used-gt-SLAB_MOST.false (sym g.get_u16.ensures ∙ e.if-get_u16-used.false) t.requires
     (subst (λ (bs : List ℕ). ShortRead told (2 ^ 62) a.out.now after (scan a.used bs)) (part_to_end a.slab.now 2)
-    d.read-short-stream.ensures)
+    d.read_short_stream.ensures)
 
-pub short-slab-spec : {M : Type 1} → statement M
-short-slab-spec =
+pub short_slab_spec : {M : Type 1} → statement M
+short_slab_spec =
     tie.close
     (tie.spec
-    returns
-    get-u16-requires
-    returns-2
-    sub-read-short-stream
-    part-read-short-stream-start
-    part-read-short-stream-end
-    read-short-stream-requires
-    same_length
-    returns-3)
+    returns-then-used-gt-SLAB_MOST
+    get_u16-requires
+    returns-then-get_u16-used
+    slice_bounds-read_short_stream-count
+    slice_bounds-read_short_stream-start
+    slice_bounds-read_short_stream-end
+    read_short_stream-requires
+    shape_of-out
+    returns)

@@ -20,7 +20,7 @@ use Rattle.book_keys.proofs.slab.slab_end.Statement.{statement}
 use Rattle.book_keys.proofs.slab.slab_end.Tie as tie
 
 -- the slab stands, and its size was computed
-module _ (c : tie.After-slab-bytes) where
+module _ (c : tie.After-slab_bytes) where
   abbrev at : tie.Start
   at = c.before.before.before.before
 
@@ -37,66 +37,66 @@ module _ (c : tie.After-slab-bytes) where
   off = at.args.off
 
   stands : is_slab class off at.args.mark ≡ true
-  stands = sym c.before.before.slab_stands.ensures ∙ not-false _ c.before.if1.false
+  stands = sym c.before.before.slab_stands.ensures ∙ not-false _ c.before.if-not-slab_stands.false
 
-  size : c.slab-bytes.result ≡ slab_bytes class
-  size = slab_size class _ (slab_lies class off at.args.mark stands).0 c.slab-bytes.ensures
+  size : c.slab_bytes.result ≡ slab_bytes class
+  size = slab_size class _ (slab_lies class off at.args.mark stands).0 c.slab_bytes.ensures
 
-  inside : off + c.slab-bytes.result ≤ length body
+  inside : off + c.slab_bytes.result ≤ length body
   inside =
       let b = block_stands class off at.args.mark (slab_lies class off at.args.mark stands).1 in
       let e = size in
       omega (arith, b.ends, at.pre)
 
-slab-stands-requires : tie.Need-slab-stands-requires
-slab-stands-requires c κs = search rules
+slab_stands-requires : tie.Need-slab_stands-requires
+slab_stands-requires c κs = search rules
 
-returns : tie.Need-returns
-returns c =
+returns-then-not-slab_stands : tie.Need-returns-then-not-slab_stands
+returns-then-not-slab_stands c =
     let a = c.before.before.before.args in
     turned_back (end_from 0) _
     (slab_no (body_ground a.body.now a.mark) a.class a.used a.off (sym c.before.slab_stands.ensures
-    ∙ not-true _ c.if1.true))
+    ∙ not-true _ c.if-not-slab_stands.true))
 
-slab-bytes-requires : tie.Need-slab-bytes-requires
-slab-bytes-requires c κs = search rules
+slab_bytes-requires : tie.Need-slab_bytes-requires
+slab_bytes-requires c κs = search rules
 
-add-end : tie.Need-overflow-add-end
-add-end c = let h = inside c in omega arith
+overflow_add-end : tie.Need-overflow_add-end
+overflow_add-end c = let h = inside c in omega arith
 
-sub-read-slab : tie.Need-overflow-sub-read-slab
-sub-read-slab c = search rules
+slice_bounds-read_slab-count : tie.Need-slice_bounds-read_slab-count
+slice_bounds-read_slab-count c = search rules
 
-part-read-slab-start : tie.Need-slice-bounds-read-slab-start
-part-read-slab-start c = search rules
+slice_bounds-read_slab-start : tie.Need-slice_bounds-read_slab-start
+slice_bounds-read_slab-start c = search rules
 
-part-read-slab-end : tie.Need-slice-bounds-read-slab-end
-part-read-slab-end c = inside c
+slice_bounds-read_slab-end : tie.Need-slice_bounds-read_slab-end
+slice_bounds-read_slab-end c = inside c
 
-read-slab-requires : tie.Need-read-slab-requires
-read-slab-requires c κs =
+read_slab-requires : tie.Need-read_slab-requires
+read_slab-requires c κs =
     let h = inside c.before in
     let e = size c.before in
     simp (length-take, length-drop) (omega (arith, bytes_from_16 (class c.before)))
 
-returns-2 : tie.Need-returns-2
-returns-2 c =
+returns : tie.Need-returns
+returns c =
     let d = c.before.before in
-    c.read-slab.ensures
+    c.read_slab.ensures
     ∙ ap (λ (bs : List ℕ). answered (end_from 0) (soundly (slab_read bs (at d).args.used)))
-    (span (body d) (off d) d.slab-bytes.result (slab_bytes (class d)) (size d))
+    (span (body d) (off d) d.slab_bytes.result (slab_bytes (class d)) (size d))
     ∙ ap (λ a. answered (end_from 0) (soundly a)) (sym (slab_yes (s d) (class d) (at d).args.used (off d) (stands d)))
 
-pub slab-end-spec : {M : Type 1} → statement M
-slab-end-spec =
+pub slab_end_spec : {M : Type 1} → statement M
+slab_end_spec =
     tie.close
     (tie.spec
-    slab-stands-requires
-    returns
-    slab-bytes-requires
-    add-end
-    sub-read-slab
-    part-read-slab-start
-    part-read-slab-end
-    read-slab-requires
-    returns-2)
+    slab_stands-requires
+    returns-then-not-slab_stands
+    slab_bytes-requires
+    overflow_add-end
+    slice_bounds-read_slab-count
+    slice_bounds-read_slab-start
+    slice_bounds-read_slab-end
+    read_slab-requires
+    returns)

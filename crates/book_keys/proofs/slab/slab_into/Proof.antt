@@ -16,59 +16,59 @@ use Rattle.book_keys.proofs.slab.slab_into.Tie as tie
 use Rattle.book_keys.specs.Keys.{body_ground}
 
 -- the slab's size was computed
-module _ (c : tie.After-slab-bytes) where
+module _ (c : tie.After-slab_bytes) where
   abbrev at : tie.Start
   at = c.before.before.before
 
-  size : c.slab-bytes.result ≡ slab_bytes at.args.class
-  size = slab_size at.args.class _ at.pre.0 c.slab-bytes.ensures
+  size : c.slab_bytes.result ≡ slab_bytes at.args.class
+  size = slab_size at.args.class _ at.pre.0 c.slab_bytes.ensures
 
-  inside : at.args.off + c.slab-bytes.result ≤ length at.args.body.now
+  inside : at.args.off + c.slab_bytes.result ≤ length at.args.body.now
   inside = let e = size in omega (arith, at.pre.1)
 
-slab-bytes-requires : tie.Need-slab-bytes-requires
-slab-bytes-requires c κs = search rules
+slab_bytes-requires : tie.Need-slab_bytes-requires
+slab_bytes-requires c κs = search rules
 
-add-end : tie.Need-overflow-add-end
-add-end c = let h = inside c in omega arith
+overflow_add-end : tie.Need-overflow_add-end
+overflow_add-end c = let h = inside c in omega arith
 
-sub-fill-slab : tie.Need-overflow-sub-fill-slab
-sub-fill-slab c = search rules
+slice_bounds-fill_slab-count : tie.Need-slice_bounds-fill_slab-count
+slice_bounds-fill_slab-count c = search rules
 
-part-fill-slab-start : tie.Need-slice-bounds-fill-slab-start
-part-fill-slab-start c = search rules
+slice_bounds-fill_slab-start : tie.Need-slice_bounds-fill_slab-start
+slice_bounds-fill_slab-start c = search rules
 
-part-fill-slab-end : tie.Need-slice-bounds-fill-slab-end
-part-fill-slab-end c = inside c
+slice_bounds-fill_slab-end : tie.Need-slice_bounds-fill_slab-end
+slice_bounds-fill_slab-end c = inside c
 
-fill-slab-requires : tie.Need-fill-slab-requires
-fill-slab-requires c κs =
+fill_slab-requires : tie.Need-fill_slab-requires
+fill_slab-requires c κs =
     let d = c.before.before in
     let h = inside d in
     let e = size d in
     simp (length-take, length-drop) (omega (arith, bytes_from_16 (at d).args.class))
 
-same_length : tie.Need-same-length
-same_length c = search rules
+shape_of-out : tie.Need-shape_of-out
+shape_of-out c = search rules
 
 returns : tie.Need-returns
 returns c mark used read e h =
     let d = c.before.before.before.before.before in
     let a = (at d).args in
     let there = slab_there (body_ground a.body.now mark) a.class used a.off (was_sound _ e) in
-    c.before.before.fill-slab.ensures used read
-    (ap (λ (bs : List ℕ). slab_read bs used) (span a.body.now a.off d.slab-bytes.result (slab_bytes a.class) (size d))
+    c.before.before.fill_slab.ensures used read
+    (ap (λ (bs : List ℕ). slab_read bs used) (span a.body.now a.off d.slab_bytes.result (slab_bytes a.class) (size d))
     ∙ there.1) h
 
-pub slab-into-spec : {M : Type 1} → statement M
-slab-into-spec =
+pub slab_into_spec : {M : Type 1} → statement M
+slab_into_spec =
     tie.close
     (tie.spec
-    slab-bytes-requires
-    add-end
-    sub-fill-slab
-    part-fill-slab-start
-    part-fill-slab-end
-    fill-slab-requires
-    same_length
+    slab_bytes-requires
+    overflow_add-end
+    slice_bounds-fill_slab-count
+    slice_bounds-fill_slab-start
+    slice_bounds-fill_slab-end
+    fill_slab-requires
+    shape_of-out
     returns)

@@ -20,7 +20,7 @@ use Rattle.book_keys.proofs.slab.slab_list.Statement.{statement}
 use Rattle.book_keys.proofs.slab.slab_list.Tie as tie
 
 -- the try at a short list
-module _ (d : tie.After-short-slab) where
+module _ (d : tie.After-short_slab-short) where
   abbrev at : tie.Start
   at = d.before.before.before.before
 
@@ -34,26 +34,26 @@ module _ (d : tie.After-short-slab) where
   out = at.args.out.now
 
   -- one that told 0 left the list
-  kept : d.short_slab.result ≤ 0 → d.short_slab.last.1.1.0 ≡ out
-  kept e = short_left d.short_slab.result out _ _ d.short_slab.ensures e
+  kept : d.short_slab-short.result ≤ 0 → d.short_slab-short.last.1.1.0 ≡ out
+  kept e = short_left d.short_slab-short.result out _ _ d.short_slab-short.ensures e
 
   -- and else it read it
-  tried : 0 < d.short_slab.result → Tried slab used d.short_slab.result out d.short_slab.last.1.1.0
-  tried h = slab_tried slab used d.short_slab.result out _ d.short_slab.ensures h
+  tried : 0 < d.short_slab-short.result → Tried slab used d.short_slab-short.result out d.short_slab-short.last.1.1.0
+  tried h = slab_tried slab used d.short_slab-short.result out _ d.short_slab-short.ensures h
 
 -- the slab was judged, and is sound
-module _ (g : tie.After-got) where
-  abbrev judged : tie.After-read-slab
+module _ (g : tie.In-Scanned-2) where
+  abbrev judged : tie.After-read_slab-got
   judged = g.before.before
 
-  abbrev try : tie.After-short-slab
+  abbrev try : tie.After-short_slab-short
   try = judged.before.before.before.before
 
   abbrev end : End
-  end = record { taken = g.got.given.0.0; last = g.got.given.0.1.0 }
+  end = record { taken = g.got-1.given.0.0; last = g.got-1.given.0.1.0 }
 
   found : (c : Scan) × (soundly (slab_read (slab try) (used try)) ≡ accepted c) × (end_from 0 c ≡ end)
-  found = was_accepted (end_from 0) _ (sym judged.read-slab.ensures ∙ ap scan_answer g.got.given.1)
+  found = was_accepted (end_from 0) _ (sym judged.read_slab-got.ensures ∙ ap scan_answer g.got-1.given.1)
 
   is : slab_read (slab try) (used try) ≡ accepted found.0
   is = was_sound _ found.1
@@ -61,99 +61,99 @@ module _ (g : tie.After-got) where
   size : found.0.taken ≡ end.taken
   size = ap (λ (e : End). e.taken) found.2
 
-short-slab-requires : tie.Need-short-slab-requires
-short-slab-requires c κs = search rules
+short_slab-short-requires : tie.Need-short_slab-short-requires
+short_slab-short-requires c κs = search rules
 
-slab-counts-requires : tie.Need-slab-counts-requires
-slab-counts-requires c κs =
+slab_counts-requires : tie.Need-slab_counts-requires
+slab_counts-requires c κs =
     let d = c.before.before.before in
-    let w = tried d c.if1.true in
+    let w = tried d c.if-short-gt0.true in
     omega (arith, slab_within (slab d) (used d) w.scanned w.is, w.size)
 
-same_length : tie.Need-same-length
-same_length c = search rules
+shape_of-out-then-short-gt0 : tie.Need-shape_of-out-then-short-gt0
+shape_of-out-then-short-gt0 c = search rules
 
-returns : tie.Need-returns
-returns c s class off here bytes =
+returns-then-short-gt0 : tie.Need-returns-then-short-gt0
+returns-then-short-gt0 c s class off here bytes =
     let t = c.before in
     let d = t.before.before.before in
-    let w = tried d t.if1.true in
+    let w = tried d t.if-short-gt0.true in
     let read = slab_listed s class (used d) off (slab d) (out d) _ here bytes w.scanned w.is w.fits w.written in
     (c.slab_counts.ensures w.scanned w.is w.size ∙ read.0, read.1)
 
-read-slab-requires : tie.Need-read-slab-requires
-read-slab-requires c κs = search rules
+read_slab-got-requires : tie.Need-read_slab-got-requires
+read_slab-got-requires c κs = search rules
 
-enum-known-got : tie.Need-enum-known-got
-enum-known-got c = search rules
+enum_known-got : tie.Need-enum_known-got
+enum_known-got c = search rules
 
-enum_told : tie.Need-enum-told
-enum_told c = search rules
+enum_told-1 : tie.Need-enum_told-1
+enum_told-1 c = search rules
 
-same-length-2 : tie.Need-same-length-2
-same-length-2 c = search rules
+shape_of-out-in_default : tie.Need-shape_of-out-in_default
+shape_of-out-in_default c = search rules
 
-returns-2 : tie.Need-returns-2
-returns-2 c s class off here bytes =
+returns-in_default : tie.Need-returns-in_default
+returns-in_default c s class off here bytes =
     let r = c.before.before in
     let d = r.before.before.before.before in
-    let stop = was_refused (end_from 0) _ (sym r.read-slab.ensures ∙ ap scan_answer c.enum_told.given.1) in
-    slab_unsound s class (used d) off (slab d) (out d) _ here bytes (was_unsound _ stop).1 (kept d r.before.if1.false)
+    let stop = was_refused (end_from 0) _ (sym r.read_slab-got.ensures ∙ ap scan_answer c.enum_told-1.given.1) in
+    slab_unsound s class (used d) off (slab d) (out d) _ here bytes (was_unsound _ stop).1 (kept d r.before.if-short-gt0.false)
 
-same-length-3 : tie.Need-same-length-3
-same-length-3 c = search rules
+shape_of-out-then-out-used : tie.Need-shape_of-out-then-out-used
+shape_of-out-then-out-used c = search rules
 
-returns-3 : tie.Need-returns-3
-returns-3 c s class off here bytes =
+returns-then-out-used : tie.Need-returns-then-out-used
+returns-then-out-used c s class off here bytes =
     let g = c.before.before in
     let d = try g in
-    let stays = kept d (judged g).before.if1.false in
+    let stays = kept d (judged g).before.if-short-gt0.false in
     slab_too_long s class (used d) off (slab d) (out d) _ here bytes (found g).0 (is g)
-    (omega (arith, c.if2.true, ap length stays)) stays
+    (omega (arith, c.if-out-used.true, ap length stays)) stays
 
-fill-slab-requires : tie.Need-fill-slab-requires
-fill-slab-requires c κs = search rules
+fill_slab-requires : tie.Need-fill_slab-requires
+fill_slab-requires c κs = search rules
 
-slab-counts-requires-2 : tie.Need-slab-counts-requires-2
-slab-counts-requires-2 c κs =
+slab_counts-requires-2 : tie.Need-slab_counts-requires-2
+slab_counts-requires-2 c κs =
     let g = c.before.before.before.before.before.before in
     let d = try g in
     omega (arith, slab_within (slab d) (used d) (found g).0 (is g), size g)
 
-same-length-4 : tie.Need-same-length-4
-same-length-4 c = search rules
+shape_of-out : tie.Need-shape_of-out
+shape_of-out c = search rules
 
-returns-4 : tie.Need-returns-4
-returns-4 c s class off here bytes =
+returns : tie.Need-returns
+returns c s class off here bytes =
     let w = c.before.before.before in
     let f = w.before.before in
     let g = f.before.before in
     let d = try g in
-    let stays = kept d (judged g).before.if1.false in
+    let stays = kept d (judged g).before.if-short-gt0.false in
     let counted = slab_counted s class (used d) off (slab d) (out d) (out d) here bytes (found g).0 (is g) in
-    let fits : length (found g).0.numbers ≤ length (out d) = omega (arith, f.if2.false, ap length stays, counted) in
+    let fits : length (found g).0.numbers ≤ length (out d) = omega (arith, f.if-out-used.false, ap length stays, counted) in
     let read =
     slab_listed s class (used d) off (slab d) (out d) _ here bytes (found g).0 (is g) fits
-    (w.fill-slab.ensures (used d) (found g).0 (is g) (omega (arith, f.if2.false, counted))
+    (w.fill_slab.ensures (used d) (found g).0 (is g) (omega (arith, f.if-out-used.false, counted))
     ∙ ap (λ (l : List ℕ). overwrite l 0 (found g).0.numbers) stays) in
-    (c.slab-counts2.ensures (found g).0 (is g) (size g) ∙ read.0, read.1)
+    (c.slab_counts-2.ensures (found g).0 (is g) (size g) ∙ read.0, read.1)
 
-pub slab-list-spec : {M : Type 1} → statement M
-slab-list-spec =
+pub slab_list_spec : {M : Type 1} → statement M
+slab_list_spec =
     tie.close
     (tie.spec
-    short-slab-requires
-    slab-counts-requires
-    same_length
-    returns
-    read-slab-requires
-    enum-known-got
-    enum_told
-    same-length-2
-    returns-2
-    same-length-3
-    returns-3
-    fill-slab-requires
-    slab-counts-requires-2
-    same-length-4
-    returns-4)
+    short_slab-short-requires
+    slab_counts-requires
+    shape_of-out-then-short-gt0
+    returns-then-short-gt0
+    read_slab-got-requires
+    enum_known-got
+    enum_told-1
+    shape_of-out-in_default
+    returns-in_default
+    shape_of-out-then-out-used
+    returns-then-out-used
+    fill_slab-requires
+    slab_counts-requires-2
+    shape_of-out
+    returns)

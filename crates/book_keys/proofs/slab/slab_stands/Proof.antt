@@ -5,14 +5,14 @@ use Rattle.book_keys.proofs.LawsBlocks.{no_slab_class, slab_is}
 use Rattle.book_keys.proofs.slab.slab_stands.Statement.{statement}
 use Rattle.book_keys.proofs.slab.slab_stands.Tie as tie
 
+returns-then-class-gt-SH_MAX_SLAB_CLASS : tie.Need-returns-then-class-gt-SH_MAX_SLAB_CLASS
+returns-then-class-gt-SH_MAX_SLAB_CLASS c = sym (no_slab_class _ _ _ c.if-class-gt-SH_MAX_SLAB_CLASS.true)
+
+is_slab-requires : tie.Need-is_slab-requires
+is_slab-requires c κs = search rules
+
 returns : tie.Need-returns
-returns c = sym (no_slab_class _ _ _ c.if1.true)
+returns c = c.is_slab.ensures ∙ sym (slab_is _ _ _ c.before.if-class-gt-SH_MAX_SLAB_CLASS.false)
 
-is-slab-requires : tie.Need-is-slab-requires
-is-slab-requires c κs = search rules
-
-returns-2 : tie.Need-returns-2
-returns-2 c = c.is-slab.ensures ∙ sym (slab_is _ _ _ c.before.if1.false)
-
-pub slab-stands-spec : {M : Type 1} → statement M
-slab-stands-spec = tie.close (tie.spec returns is-slab-requires returns-2)
+pub slab_stands_spec : {M : Type 1} → statement M
+slab_stands_spec = tie.close (tie.spec returns-then-class-gt-SH_MAX_SLAB_CLASS is_slab-requires returns)

@@ -5,14 +5,14 @@ use Rattle.book.proofs.LawsKey.{does_yes}
 use Rattle.book_load.proofs.loading.accept_load.Statement.{statement}
 use Rattle.book_load.proofs.loading.accept_load.Tie as tie
 
-put-head-requires : tie.Need-put-head-requires
-put-head-requires c κs = search rules
+put_head-requires : tie.Need-put_head-requires
+put_head-requires c κs = search rules
 
-same_length : tie.Need-same-length
-same_length c = search rules
+shape_of-heads : tie.Need-shape_of-heads
+shape_of-heads c = search rules
 
 returns : tie.Need-returns
-returns c b s counts e = does_yes _ _ _ _ refl refl (rw (e, c.before.before.put-head.ensures))
+returns c b s counts e = does_yes _ _ _ _ refl refl (rw (e, c.before.before.put_head.ensures))
 
-pub accept-load-spec : {M : Type 1} → statement M
-accept-load-spec = tie.close (tie.spec put-head-requires same_length returns)
+pub accept_load_spec : {M : Type 1} → statement M
+accept_load_spec = tie.close (tie.spec put_head-requires shape_of-heads returns)

@@ -42,152 +42,152 @@ module _ (c : tie.Start) where
   load = loads c.args.fit desk book key list
 
 -- the book is in shape
-module _ (t : tie.Else1) where
+module _ (t : tie.Else-shape_broken) where
   abbrev start : tie.Start
   start = t.before.before.before.before.before.before.before
 
   good : shape_broken (book start).space (length (book start).heads) ≡ false
-  good = sym (t.before.shape-broken.ensures start.args.free.now) ∙ t.if1.left
+  good = sym (t.before.shape_broken.ensures start.args.free.now) ∙ t.if-shape_broken.left
 
 -- the desk is one
-module _ (t : tie.Else2) where
+module _ (t : tie.Else-desk) where
   one : desk (start t.before) < desks
-  one = omega (arith, t.if2.false)
+  one = omega (arith, t.if-desk.false)
 
 -- the key is one of the heads
-module _ (t : tie.Else3) where
-  abbrev shaped : tie.Else1
+module _ (t : tie.Else-heads-key) where
+  abbrev shaped : tie.Else-shape_broken
   shaped = t.before.before
 
   known : key (start shaped) < length (book (start shaped)).heads
-  known = omega (arith, t.if3.left)
+  known = omega (arith, t.if-heads-key.left)
 
 -- the key is empty
-module _ (t : tie.Else4) where
-  abbrev keyed : tie.Else3
+module _ (t : tie.Else-heads-at-ne0) where
+  abbrev keyed : tie.Else-heads-key
   keyed = t.before.before
 
   empty : word_of (key (start (shaped keyed))) (book (start (shaped keyed))) ≡ 0
-  empty = t.if4.left
+  empty = t.if-heads-at-ne0.left
 
 -- the numbers aren't too many
-module _ (t : tie.Else5) where
-  abbrev there : tie.Else3
+module _ (t : tie.Else-fks-gt-MAX_OFFERED) where
+  abbrev there : tie.Else-heads-key
   there = keyed t.before
 
   abbrev begin : tie.Start
   begin = start (shaped there)
 
   few : length (list begin) ≤ max_offered
-  few = omega (arith, t.if5.left)
+  few = omega (arith, t.if-fks-gt-MAX_OFFERED.left)
 
 -- the list was judged
-module _ (k : tie.After-judged) where
-  abbrev listed : tie.Else5
+module _ (k : tie.In-Bytes-2) where
+  abbrev listed : tie.Else-fks-gt-MAX_OFFERED
   listed = k.before.before.before
 
-  judged : Rising (2 ^ 62) 0 (list (begin listed)) × (accepted (stream_len (list (begin listed))) ≡ accepted k.judged.given.0.0)
+  judged : Rising (2 ^ 62) 0 (list (begin listed)) × (accepted (stream_len (list (begin listed))) ≡ accepted k.judged-1.given.0.0)
   judged =
       let ns = list (begin listed) in
-      offered_all true 0 ns (accepted (stream_len ns)) (sym k.before.before.judge-list.ensures ∙ ap bytes_answer k.judged.given.1)
+      offered_all true 0 ns (accepted (stream_len ns)) (sym k.before.before.judge_list-judged.ensures ∙ ap bytes_answer k.judged-1.given.1)
 
-shape-broken-requires : tie.Need-shape-broken-requires
-shape-broken-requires c κs = search rules
+shape_broken-requires : tie.Need-shape_broken-requires
+shape_broken-requires c κs = search rules
 
-same_length : tie.Need-same-length
-same_length c = search rules
+shape_of-body-then-shape_broken : tie.Need-shape_of-body-then-shape_broken
+shape_of-body-then-shape_broken c = search rules
 
-returns : tie.Need-returns
-returns c =
+returns-then-shape_broken : tie.Need-returns-then-shape_broken
+returns-then-shape_broken c =
     let t = c.before in
     let s = t.before.before.before.before.before.before in
-    let broken = sym (t.shape-broken.ensures s.args.free.now) ∙ c.if1.true in
+    let broken = sym (t.shape_broken.ensures s.args.free.now) ∙ c.if-shape_broken.true in
     let e = ends_refused (book s) (load s) (loads_shape s.args.fit (desk s) (book s) (key s) (list s) broken) in
     (e.told, e.left)
 
-same-length-2 : tie.Need-same-length-2
-same-length-2 c = search rules
+shape_of-body-then-desk : tie.Need-shape_of-body-then-desk
+shape_of-body-then-desk c = search rules
 
-returns-2 : tie.Need-returns-2
-returns-2 c =
+returns-then-desk : tie.Need-returns-then-desk
+returns-then-desk c =
     let t = c.before in
     let s = start t in
     let e = ends_refused (book s) (load s)
-    (loads_desk s.args.fit (desk s) (book s) (key s) (list s) (good t) (omega (arith, c.if2.true))) in
+    (loads_desk s.args.fit (desk s) (book s) (key s) (list s) (good t) (omega (arith, c.if-desk.true))) in
     (e.told, e.left)
 
-same-length-3 : tie.Need-same-length-3
-same-length-3 c = search rules
+shape_of-body-then-heads-key : tie.Need-shape_of-body-then-heads-key
+shape_of-body-then-heads-key c = search rules
 
-returns-3 : tie.Need-returns-3
-returns-3 c =
+returns-then-heads-key : tie.Need-returns-then-heads-key
+returns-then-heads-key c =
     let d = c.before in
     let t = d.before in
     let s = start t in
     let e = ends_refused (book s) (load s)
-    (loads_beyond s.args.fit (desk s) (book s) (key s) (list s) (good t) (one d) c.if3.true) in
+    (loads_beyond s.args.fit (desk s) (book s) (key s) (list s) (good t) (one d) c.if-heads-key.true) in
     (e.told, e.left)
 
-mul-if4 : tie.Need-overflow-mul-if4
-mul-if4 c = search rules
+offset_bounds-heads-at : tie.Need-offset_bounds-heads-at
+offset_bounds-heads-at c = search rules
 
-slice-read-if4 : tie.Need-slice-read-if4
-slice-read-if4 c = search rules
+bounds-heads-at : tie.Need-bounds-heads-at
+bounds-heads-at c = search rules
 
-same-length-4 : tie.Need-same-length-4
-same-length-4 c = search rules
+shape_of-body-then-heads-at-ne0 : tie.Need-shape_of-body-then-heads-at-ne0
+shape_of-body-then-heads-at-ne0 c = search rules
 
-returns-4 : tie.Need-returns-4
-returns-4 c =
+returns-then-heads-at-ne0 : tie.Need-returns-then-heads-at-ne0
+returns-then-heads-at-ne0 c =
     let t = c.before.before in
     let s = start (shaped t) in
     let e = ends_refused (book s) (load s)
-    (loads_in_use s.args.fit (desk s) (book s) (key s) (list s) (good (shaped t)) (one t.before) (known t) c.if4.true) in
+    (loads_in_use s.args.fit (desk s) (book s) (key s) (list s) (good (shaped t)) (one t.before) (known t) c.if-heads-at-ne0.true) in
     (e.told, e.left)
 
-same-length-5 : tie.Need-same-length-5
-same-length-5 c = search rules
+shape_of-body-then-fks-gt-MAX_OFFERED : tie.Need-shape_of-body-then-fks-gt-MAX_OFFERED
+shape_of-body-then-fks-gt-MAX_OFFERED c = search rules
 
-returns-5 : tie.Need-returns-5
-returns-5 c =
+returns-then-fks-gt-MAX_OFFERED : tie.Need-returns-then-fks-gt-MAX_OFFERED
+returns-then-fks-gt-MAX_OFFERED c =
     let f = c.before in
     let t = keyed f in
     let s = start (shaped t) in
     let e = ends_refused (book s) (load s)
     (loads_too_many s.args.fit (desk s) (book s) (key s) (list s) (good (shaped t)) (one t.before) (known t) (empty f)
-    c.if5.true) in
+    c.if-fks-gt-MAX_OFFERED.true) in
     (e.told, e.left)
 
-judge-list-requires : tie.Need-judge-list-requires
-judge-list-requires c κs = search rules
+judge_list-judged-requires : tie.Need-judge_list-judged-requires
+judge_list-judged-requires c κs = search rules
 
-enum-known-judged : tie.Need-enum-known-judged
-enum-known-judged c = search rules
+enum_known-judged : tie.Need-enum_known-judged
+enum_known-judged c = search rules
 
-enum_told : tie.Need-enum-told
-enum_told c = search rules
+enum_told-1 : tie.Need-enum_told-1
+enum_told-1 c = search rules
 
 refusal-requires : tie.Need-refusal-requires
 refusal-requires c κs = search rules
 
-same-length-6 : tie.Need-same-length-6
-same-length-6 c = search rules
+shape_of-body-in_default : tie.Need-shape_of-body-in_default
+shape_of-body-in_default c = search rules
 
-returns-6 : tie.Need-returns-6
-returns-6 c =
+returns-in_default : tie.Need-returns-in_default
+returns-in_default c =
     let told = c.before in
     let j = told.before.before in
     let t = j.before in
     let k = there t in
     let s = begin t in
-    let number = refused_as _ _ (ap bytes_answer told.enum_told.given.1) c.refusal.ensures in
+    let number = refused_as _ _ (ap bytes_answer told.enum_told-1.given.1) c.refusal.ensures in
     let e = ends_refused (book s) (load s)
     (loads_offered s.args.fit (desk s) (book s) (key s) (list s) (good (shaped k)) (one k.before) (known k) (empty t.before)
-    (few t) (sym j.judge-list.ensures ∙ number)) in
+    (few t) (sym j.judge_list-judged.ensures ∙ number)) in
     (e.told, e.left)
 
-load-judged-requires : tie.Need-load-judged-requires
-load-judged-requires c κs =
+load_judged-requires : tie.Need-load_judged-requires
+load_judged-requires c κs =
     let j = c.before.before.before.before.before.before in
     let t = listed j in
     let k = there t in
@@ -199,20 +199,20 @@ load-judged-requires c κs =
       bytes_are = sym (accepted_inj (judged j).1);
     }
 
-same-length-7 : tie.Need-same-length-7
-same-length-7 c = search rules
+shape_of-body : tie.Need-shape_of-body
+shape_of-body c = search rules
 
-same-length-8 : tie.Need-same-length-8
-same-length-8 c = search rules
+shape_of-heads : tie.Need-shape_of-heads
+shape_of-heads c = search rules
 
-returns-7 : tie.Need-returns-7
-returns-7 c =
+returns : tie.Need-returns
+returns c =
     let p = c.before.before.before.before in
     let j = p.before.before.before.before.before.before.before in
     let t = listed j in
     let k = there t in
     let s = begin t in
-    let e = p.load-judged.ensures in
+    let e = p.load_judged.ensures in
     rw (loads_on s.args.fit (desk s) (book s) (key s) (list s) (good (shaped k)) (one k.before) (known k) (empty t.before)
     (few t) (judged j).0) (e.told, e.left)
 
@@ -220,26 +220,26 @@ pub load_spec : {M : Type 1} → statement M
 load_spec =
     tie.close
     (tie.spec
-    shape-broken-requires
-    same_length
-    returns
-    same-length-2
-    returns-2
-    same-length-3
-    returns-3
-    mul-if4
-    slice-read-if4
-    same-length-4
-    returns-4
-    same-length-5
-    returns-5
-    judge-list-requires
-    enum-known-judged
-    enum_told
+    shape_broken-requires
+    shape_of-body-then-shape_broken
+    returns-then-shape_broken
+    shape_of-body-then-desk
+    returns-then-desk
+    shape_of-body-then-heads-key
+    returns-then-heads-key
+    offset_bounds-heads-at
+    bounds-heads-at
+    shape_of-body-then-heads-at-ne0
+    returns-then-heads-at-ne0
+    shape_of-body-then-fks-gt-MAX_OFFERED
+    returns-then-fks-gt-MAX_OFFERED
+    judge_list-judged-requires
+    enum_known-judged
+    enum_told-1
     refusal-requires
-    same-length-6
-    returns-6
-    load-judged-requires
-    same-length-7
-    same-length-8
-    returns-7)
+    shape_of-body-in_default
+    returns-in_default
+    load_judged-requires
+    shape_of-body
+    shape_of-heads
+    returns)

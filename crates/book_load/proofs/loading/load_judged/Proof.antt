@@ -21,89 +21,89 @@ module _ (c : tie.Start) where
   list = c.args.fks.now
 
 -- the list has two numbers or more
-module _ (c : tie.Else2) where
+module _ (c : tie.Else-fks-eq1) where
   abbrev start : tie.Start
   start = c.before.before.before.before.before
 
   two : 2 ≤ length (list start)
-  two = omega (arith, c.if2.false, c.before.if1.false)
+  two = omega (arith, c.if-fks-eq1.false, c.before.if-fks-eq0.false)
 
-returns : tie.Need-returns
-returns c =
+returns-then-fks-eq0 : tie.Need-returns-then-fks-eq0
+returns-then-fks-eq0 c =
     let s = c.before.before.before.before in
-    ends_same (book s) _ (load_none s.args.fit s.args.desk (book s) s.args.key (list s) c.if1.true)
+    ends_same (book s) _ (load_none s.args.fit s.args.desk (book s) s.args.key (list s) c.if-fks-eq0.true)
 
-shared-slice-read-entry : tie.Need-shared-slice-read-entry
-shared-slice-read-entry c = search rules
+bounds-fks-0 : tie.Need-bounds-fks-0
+bounds-fks-0 c = search rules
 
-accept-load-requires : tie.Need-accept-load-requires
-accept-load-requires c κs = search rules
+accept_load-requires : tie.Need-accept_load-requires
+accept_load-requires c κs = search rules
 
-same_length : tie.Need-same-length
-same_length c = search rules
+shape_of-heads-then-fks-eq1 : tie.Need-shape_of-heads-then-fks-eq1
+shape_of-heads-then-fks-eq1 c = search rules
 
-returns-2 : tie.Need-returns-2
-returns-2 c =
+returns-then-fks-eq1 : tie.Need-returns-then-fks-eq1
+returns-then-fks-eq1 c =
     let a = c.before.before in
     let one = a.before.before.before in
     let s = one.before.before.before.before.before in
-    does_same (sym (load_one s.args.fit s.args.desk (book s) s.args.key (list s) one.if2.true))
-    (a.accept-load.ensures (book s) (book s).space (book s).counts refl)
+    does_same (sym (load_one s.args.fit s.args.desk (book s) s.args.key (list s) one.if-fks-eq1.true))
+    (a.accept_load.ensures (book s) (book s).space (book s).counts refl)
 
-cast-if3 : tie.Need-overflow-cast-if3
-cast-if3 c = search rules
+overflow_cast-t-12 : tie.Need-overflow_cast-t-12
+overflow_cast-t-12 c = search rules
 
-load-run-requires : tie.Need-load-run-requires
-load-run-requires c κs = search rules
+load_run-requires : tie.Need-load_run-requires
+load_run-requires c κs = search rules
 
-same-length-2 : tie.Need-same-length-2
-same-length-2 c = search rules
+shape_of-body-then-fks : tie.Need-shape_of-body-then-fks
+shape_of-body-then-fks c = search rules
 
-same-length-3 : tie.Need-same-length-3
-same-length-3 c = search rules
+shape_of-heads-then-fks : tie.Need-shape_of-heads-then-fks
+shape_of-heads-then-fks c = search rules
 
-returns-3 : tie.Need-returns-3
-returns-3 c =
+returns-then-fks : tie.Need-returns-then-fks
+returns-then-fks c =
     let p = c.before.before.before.before in
     let many = p.before.before.before.before.before.before in
     let more = many.before in
     let s = start more in
     rw (
       load_more s.args.fit s.args.desk (book s) s.args.key (list s) (two more),
-      many_in_pages s.args.fit (list s) (omega (arith, many.if3.true)),
+      many_in_pages s.args.fit (list s) (omega (arith, many.if-fks.true)),
     ) p.load_run.ensures
 
-load-list-requires : tie.Need-load-list-requires
-load-list-requires c κs = search rules
+load_list-requires : tie.Need-load_list-requires
+load_list-requires c κs = search rules
 
-same-length-4 : tie.Need-same-length-4
-same-length-4 c = search rules
+shape_of-body : tie.Need-shape_of-body
+shape_of-body c = search rules
 
-same-length-5 : tie.Need-same-length-5
-same-length-5 c = search rules
+shape_of-heads : tie.Need-shape_of-heads
+shape_of-heads c = search rules
 
-returns-4 : tie.Need-returns-4
-returns-4 c =
+returns : tie.Need-returns
+returns c =
     let p = c.before.before.before.before in
     let more = p.before.before.before.before.before.before.before in
     let s = start more in
-    rw (load_more s.args.fit s.args.desk (book s) s.args.key (list s) (two more)) p.load-list.ensures
+    rw (load_more s.args.fit s.args.desk (book s) s.args.key (list s) (two more)) p.load_list.ensures
 
-pub load-judged-spec : {M : Type 1} → statement M
-load-judged-spec =
+pub load_judged_spec : {M : Type 1} → statement M
+load_judged_spec =
     tie.close
     (tie.spec
-    returns
-    shared-slice-read-entry
-    accept-load-requires
-    same_length
-    returns-2
-    cast-if3
-    load-run-requires
-    same-length-2
-    same-length-3
-    returns-3
-    load-list-requires
-    same-length-4
-    same-length-5
-    returns-4)
+    returns-then-fks-eq0
+    bounds-fks-0
+    accept_load-requires
+    shape_of-heads-then-fks-eq1
+    returns-then-fks-eq1
+    overflow_cast-t-12
+    load_run-requires
+    shape_of-body-then-fks
+    shape_of-heads-then-fks
+    returns-then-fks
+    load_list-requires
+    shape_of-body
+    shape_of-heads
+    returns)

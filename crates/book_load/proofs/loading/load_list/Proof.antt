@@ -15,90 +15,90 @@ use Rattle.book_load.proofs.loading.load_list.Statement.{statement}
 use Rattle.book_load.proofs.loading.load_list.Tie as tie
 
 -- the class that was chosen is the one that a load gives the list
-module _ (t : tie.After-loads-to) where
+module _ (t : tie.After-loads_to-class) where
   abbrev start : tie.Start
   start = t.before.before.before.before
 
   abbrev list : List ℕ
   list = start.args.fks.now
 
-  chose : loads_to start.args.fit (length list) (stream_len list) ≡ chosen t.loads_to.result
-  chose = sym (t.loads_to.ensures ∙ ap (loads_to start.args.fit (length list)) start.pre.bytes_are)
+  chose : loads_to start.args.fit (length list) (stream_len list) ≡ chosen t.loads_to-class.result
+  chose = sym (t.loads_to-class.ensures ∙ ap (loads_to start.args.fit (length list)) start.pre.bytes_are)
 
 -- a slab of a class
-module _ (k : tie.After-known-told) where
-  abbrev choosing : tie.After-loads-to
+module _ (k : tie.In-Class) where
+  abbrev choosing : tie.After-loads_to-class
   choosing = k.before.before.before
 
-  to_slab : loads_to (start choosing).args.fit (length (list choosing)) (stream_len (list choosing)) ≡ some k.before.class.given.0.0
-  to_slab = chose choosing ∙ ap chosen k.before.class.given.1
+  to_slab : loads_to (start choosing).args.fit (length (list choosing)) (stream_len (list choosing)) ≡ some k.before.class-1.given.0.0
+  to_slab = chose choosing ∙ ap chosen k.before.class-1.given.1
 
 -- a run
-module _ (e : tie.After-enum-told) where
+module _ (e : tie.In-Nothing) where
   to_run : loads_to (start e.before.before).args.fit (length (list e.before.before)) (stream_len (list e.before.before)) ≡ none
-  to_run = chose e.before.before ∙ ap chosen e.enum_told.given.1
+  to_run = chose e.before.before ∙ ap chosen e.enum_told-1.given.1
 
-loads-to-requires : tie.Need-loads-to-requires
-loads-to-requires c κs =
+loads_to-class-requires : tie.Need-loads_to-class-requires
+loads_to-class-requires c κs =
     let start = c.before.before.before in
     let pre = start.requires in (
       omega (arith, pre.two_fks),
       omega (arith, pre.bytes_are, pre.judged.few, stream_at_most 0 start.args.fks.now pre.judged.rises),
     )
 
-enum-known-class : tie.Need-enum-known-class
-enum-known-class c = search rules
+enum_known-class : tie.Need-enum_known-class
+enum_known-class c = search rules
 
-load-slab-requires : tie.Need-load-slab-requires
-load-slab-requires c κs =
+load_slab-requires : tie.Need-load_slab-requires
+load_slab-requires c κs =
     let k = c.before.before.before.before.before in
     let t = choosing k in
     let pre = (start t).pre in
     let (few, low, fits) = loads_to_lem (start t).args.fit (length (list t)) (stream_len (list t)) (to_slab k) in
     record { to_load = pre.to_load; low = low; few = few; rises = pre.judged.rises; fits = fits }
 
-enum_told : tie.Need-enum-told
-enum_told c = search rules
+enum_told-1 : tie.Need-enum_told-1
+enum_told-1 c = search rules
 
-load-run-requires : tie.Need-load-run-requires
-load-run-requires c κs =
+load_run-requires : tie.Need-load_run-requires
+load_run-requires c κs =
     let pre = (start c.before.before.before.before.before.before.before).pre in
     record { to_load = pre.to_load; some_fks = omega (arith, pre.two_fks); judged = pre.judged }
 
-same_length : tie.Need-same-length
-same_length c = search rules
+shape_of-body-in-Class : tie.Need-shape_of-body-in-Class
+shape_of-body-in-Class c = search rules
 
-same-length-2 : tie.Need-same-length-2
-same-length-2 c = search rules
+shape_of-heads-in-Class : tie.Need-shape_of-heads-in-Class
+shape_of-heads-in-Class c = search rules
 
-returns : tie.Need-returns
-returns c =
+returns-in-Class : tie.Need-returns-in-Class
+returns-in-Class c =
     let p = c.before.before.before.before in
     rw (to_slab p.before.before.before.before.before.before) p.load_slab.ensures
 
-same-length-3 : tie.Need-same-length-3
-same-length-3 c = search rules
+shape_of-body-in-Nothing : tie.Need-shape_of-body-in-Nothing
+shape_of-body-in-Nothing c = search rules
 
-same-length-4 : tie.Need-same-length-4
-same-length-4 c = search rules
+shape_of-heads-in-Nothing : tie.Need-shape_of-heads-in-Nothing
+shape_of-heads-in-Nothing c = search rules
 
-returns-2 : tie.Need-returns-2
-returns-2 c =
+returns-in-Nothing : tie.Need-returns-in-Nothing
+returns-in-Nothing c =
     let p = c.before.before.before.before in
     rw (to_run p.before.before.before.before.before.before) p.load_run.ensures
 
-pub load-list-spec : {M : Type 1} → statement M
-load-list-spec =
+pub load_list_spec : {M : Type 1} → statement M
+load_list_spec =
     tie.close
     (tie.spec
-    loads-to-requires
-    enum-known-class
-    load-slab-requires
-    enum_told
-    load-run-requires
-    same_length
-    same-length-2
-    returns
-    same-length-3
-    same-length-4
-    returns-2)
+    loads_to-class-requires
+    enum_known-class
+    load_slab-requires
+    enum_told-1
+    load_run-requires
+    shape_of-body-in-Class
+    shape_of-heads-in-Class
+    returns-in-Class
+    shape_of-body-in-Nothing
+    shape_of-heads-in-Nothing
+    returns-in-Nothing)

@@ -22,7 +22,7 @@ use Rattle.book_load.proofs.loading.load_parts.Statement.{statement}
 use Rattle.book_load.proofs.loading.load_parts.Tie as tie
 
 -- the book before, its list with the ranges of its parts, the take, and the space and the counts after it
-module _ (t : tie.After-run-for) where
+module _ (t : tie.After-run_for-answer) where
   abbrev start : tie.Start
   start = t.before.before.before.before.before.before.before.before
 
@@ -47,24 +47,24 @@ module _ (t : tie.After-run-for) where
   takes = run_for desk count book.space book.counts
 
   abbrev after : Space
-  after = space t.run_for.last.0 t.run_for.last.1.0 t.run_for.last.1.1.0
+  after = space t.run_for-answer.last.0 t.run_for-answer.last.1.0 t.run_for-answer.last.1.1.0
 
   abbrev counted : List ℕ
-  counted = t.run_for.last.1.1.1.0
+  counted = t.run_for-answer.last.1.1.1.0
 
 -- a run was taken, and can be written
-module _ (k : tie.After-known-told) where
-  abbrev taking : tie.After-run-for
+module _ (k : tie.In-At) where
+  abbrev taking : tie.After-run_for-answer
   taking = k.before.before.before.before.before
 
   abbrev taken : TakenFor
-  taken = record { off = k.before.answer.given.0.0; space = after taking; counts = counted taking }
+  taken = record { off = k.before.answer-1.given.0.0; space = after taking; counts = counted taking }
 
   took : takes taking ≡ accepted taken
   took =
       let b = book taking in
-      took_at b.space b.counts (after taking) (counted taking) (takes taking) taking.run_for.ensures
-      (ap take_answer k.before.answer.given.1)
+      took_at b.space b.counts (after taking) (counted taking) (takes taking) taking.run_for-answer.ensures
+      (ap take_answer k.before.answer-1.given.1)
 
   lies : Run (length taken.space.body) taken.off (list taking) (ranges taking) (count taking)
   lies =
@@ -72,8 +72,8 @@ module _ (k : tie.After-known-told) where
       let pre = (start taking).pre in
       run_lies (desk taking) b.space b.counts taken (list taking) (ranges taking) (count taking) pre.to_load.shape pre.cut took
 
-run-for-requires : tie.Need-run-for-requires
-run-for-requires c κs =
+run_for-answer-requires : tie.Need-run_for-answer-requires
+run_for-answer-requires c κs =
     let start = c.before.before.before.before.before.before.before in
     let pre = start.pre in
     record {
@@ -83,77 +83,77 @@ run-for-requires c κs =
       some_pages = count_some start.args.fks.now start.args.ranges.now start.args.count pre.cut;
     }
 
-enum-known-answer : tie.Need-enum-known-answer
-enum-known-answer c = search rules
+enum_known-answer : tie.Need-enum_known-answer
+enum_known-answer c = search rules
 
-enum_told : tie.Need-enum-told
-enum_told c = search rules
+enum_told-1 : tie.Need-enum_told-1
+enum_told-1 c = search rules
 
 refusal-requires : tie.Need-refusal-requires
 refusal-requires c κs = search rules
 
-same_length : tie.Need-same-length
-same_length c = search rules
+shape_of-body-in_default : tie.Need-shape_of-body-in_default
+shape_of-body-in_default c = search rules
 
-returns : tie.Need-returns
-returns c =
+returns-in_default : tie.Need-returns-in_default
+returns-in_default c =
     let e = c.before in
     let t = e.before.before.before.before in
-    let number = refused_as _ _ (ap take_answer e.enum_told.given.1) c.refusal.ensures in
+    let number = refused_as _ _ (ap take_answer e.enum_told-1.given.1) c.refusal.ensures in
     let b = book t in
     let key = (start t).args.key in
-    let (is, same, kept) = took_none b.space b.counts (after t) (counted t) (takes t) t.run_for.ensures number in
+    let (is, same, kept) = took_none b.space b.counts (after t) (counted t) (takes t) t.run_for-answer.ensures number in
     ends_still b (load_into (desk t) b key (list t) none)
     (run_not_loaded (desk t) b key (list t) (count t) (start t).pre.cut.parts is, same, kept)
 
-put-run-requires : tie.Need-put-run-requires
-put-run-requires c κs = lies c.before
+put_run-requires : tie.Need-put_run-requires
+put_run-requires c κs = lies c.before
 
-sub-last-page : tie.Need-sub-last-page
-sub-last-page c =
+overflow_sub-last_page : tie.Need-overflow_sub-last_page
+overflow_sub-last_page c =
     let t = taking c.before.before.before.before in count_some (list t) (ranges t) (count t) (start t).pre.cut
 
-mul-last-page : tie.Need-mul-last-page
-mul-last-page c = let run = lies c.before.before.before.before in omega (arith, run.inside, run.small)
+overflow_mul-last_page : tie.Need-overflow_mul-last_page
+overflow_mul-last_page c = let run = lies c.before.before.before.before in omega (arith, run.inside, run.small)
 
-add-last-page : tie.Need-add-last-page
-add-last-page c = let run = lies c.before.before.before.before in omega (arith, run.inside, run.small)
+overflow_add-last_page : tie.Need-overflow_add-last_page
+overflow_add-last_page c = let run = lies c.before.before.before.before in omega (arith, run.inside, run.small)
 
-accept-load-requires : tie.Need-accept-load-requires
-accept-load-requires c κs = search rules
+accept_load-requires : tie.Need-accept_load-requires
+accept_load-requires c κs = search rules
 
-same-length-2 : tie.Need-same-length-2
-same-length-2 c = search rules
+shape_of-body : tie.Need-shape_of-body
+shape_of-body c = search rules
 
-same-length-3 : tie.Need-same-length-3
-same-length-3 c = search rules
+shape_of-heads : tie.Need-shape_of-heads
+shape_of-heads c = search rules
 
-returns-2 : tie.Need-returns-2
-returns-2 c =
+returns : tie.Need-returns
+returns c =
     let a = c.before.before in
     let p = a.before.before.before.before in
     let k = p.before.before in
     let t = taking k in
     does_same
     (sym (run_loaded (desk t) (book t) (start t).args.key (list t) (count t) (start t).pre.cut.parts (taken k) (took k)
-    p.put-run.last.0 p.put-run.ensures))
-    (a.accept-load.ensures (book t) (space p.put-run.last.0 (after t).mark (after t).free) (counted t) refl)
+    p.put_run.last.0 p.put_run.ensures))
+    (a.accept_load.ensures (book t) (space p.put_run.last.0 (after t).mark (after t).free) (counted t) refl)
 
-pub load-parts-spec : {M : Type 1} → statement M
-load-parts-spec =
+pub load_parts_spec : {M : Type 1} → statement M
+load_parts_spec =
     tie.close
     (tie.spec
-    run-for-requires
-    enum-known-answer
-    enum_told
+    run_for-answer-requires
+    enum_known-answer
+    enum_told-1
     refusal-requires
-    same_length
-    returns
-    put-run-requires
-    sub-last-page
-    mul-last-page
-    add-last-page
-    accept-load-requires
-    same-length-2
-    same-length-3
-    returns-2)
+    shape_of-body-in_default
+    returns-in_default
+    put_run-requires
+    overflow_sub-last_page
+    overflow_mul-last_page
+    overflow_add-last_page
+    accept_load-requires
+    shape_of-body
+    shape_of-heads
+    returns)

@@ -17,7 +17,7 @@ use Rattle.book_load.proofs.loading.load_slab.Statement.{statement}
 use Rattle.book_load.proofs.loading.load_slab.Tie as tie
 
 -- the book before, the list's placing, and the space after it
-module _ (t : tie.After-place-in-slab) where
+module _ (t : tie.After-place_in_slab-answer) where
   abbrev start : tie.Start
   start = t.before.before.before.before.before.before.before
 
@@ -36,13 +36,13 @@ module _ (t : tie.After-place-in-slab) where
   class = start.args.class
 
   abbrev after : Space
-  after = space t.place-in-slab.last.0 t.place-in-slab.last.1.0 t.place-in-slab.last.1.1.0
+  after = space t.place_in_slab-answer.last.0 t.place_in_slab-answer.last.1.0 t.place_in_slab-answer.last.1.1.0
 
   abbrev places : Answer Placed
   places = places_into desk book.space book.counts list (some class)
 
-place-in-slab-requires : tie.Need-place-in-slab-requires
-place-in-slab-requires c κs =
+place_in_slab-answer-requires : tie.Need-place_in_slab-answer-requires
+place_in_slab-answer-requires c κs =
     let pre = c.before.before.before.before.before.before.requires in
     record {
       shape = pre.to_load.shape;
@@ -53,56 +53,56 @@ place-in-slab-requires c κs =
       fits = pre.fits;
     }
 
-enum-known-answer : tie.Need-enum-known-answer
-enum-known-answer c = search rules
+enum_known-answer : tie.Need-enum_known-answer
+enum_known-answer c = search rules
 
-accept-load-requires : tie.Need-accept-load-requires
-accept-load-requires c κs = search rules
+accept_load-requires : tie.Need-accept_load-requires
+accept_load-requires c κs = search rules
 
-enum-known-answer-2 : tie.Need-enum-known-answer-2
-enum-known-answer-2 c = search rules
+enum_known-answer-in-Refused-1 : tie.Need-enum_known-answer-in-Refused-1
+enum_known-answer-in-Refused-1 c = search rules
 
-same_length : tie.Need-same-length
-same_length c = search rules
+shape_of-body-in-At : tie.Need-shape_of-body-in-At
+shape_of-body-in-At c = search rules
 
-same-length-2 : tie.Need-same-length-2
-same-length-2 c = search rules
+shape_of-heads : tie.Need-shape_of-heads
+shape_of-heads c = search rules
 
-returns : tie.Need-returns
-returns c =
+returns-in-At : tie.Need-returns-in-At
+returns-in-At c =
     let a = c.before.before in
     let k = a.before.before.before in
     let t = k.before.before.before.before in
     let b = book t in
-    let placed = placed_at b.space b.counts (after t) b.counts (places t) t.place-in-slab.ensures
-    (ap place_answer k.answer.given.1) in
+    let placed = placed_at b.space b.counts (after t) b.counts (places t) t.place_in_slab-answer.ensures
+    (ap place_answer k.answer-1.given.1) in
     does_same (sym (slab_loaded (desk t) b (start t).args.key (list t) (class t) placed))
-    (a.accept-load.ensures b (after t) b.counts refl)
+    (a.accept_load.ensures b (after t) b.counts refl)
 
-same-length-3 : tie.Need-same-length-3
-same-length-3 c = search rules
+shape_of-body-in-Refused : tie.Need-shape_of-body-in-Refused
+shape_of-body-in-Refused c = search rules
 
-returns-2 : tie.Need-returns-2
-returns-2 c =
+returns-in-Refused : tie.Need-returns-in-Refused
+returns-in-Refused c =
     let k = c.before in
     let t = k.before.before.before.before in
     let b = book t in
     let key = (start t).args.key in
-    let (is, same, kept) = placed_none b.space b.counts (after t) b.counts (places t) t.place-in-slab.ensures
-    (ap place_answer k.answer2.given.1) in
+    let (is, same, kept) = placed_none b.space b.counts (after t) b.counts (places t) t.place_in_slab-answer.ensures
+    (ap place_answer k.answer-in-Refused-1.given.1) in
     ends_still b (load_into (desk t) b key (list t) (some (class t)))
     (slab_not_loaded (desk t) b key (list t) (class t) is, same, kept)
 
-pub load-slab-spec : {M : Type 1} → statement M
-load-slab-spec =
+pub load_slab_spec : {M : Type 1} → statement M
+load_slab_spec =
     tie.close
     (tie.spec
-    place-in-slab-requires
-    enum-known-answer
-    accept-load-requires
-    enum-known-answer-2
-    same_length
-    same-length-2
-    returns
-    same-length-3
-    returns-2)
+    place_in_slab-answer-requires
+    enum_known-answer
+    accept_load-requires
+    enum_known-answer-in-Refused-1
+    shape_of-body-in-At
+    shape_of-heads
+    returns-in-At
+    shape_of-body-in-Refused
+    returns-in-Refused)

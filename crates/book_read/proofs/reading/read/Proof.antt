@@ -40,101 +40,101 @@ module _ (t : tie.Start) (free counts : List ℕ) where
   asked = reads book t.args.key (room t)
 
 -- the shape passed its test
-module _ (c : tie.Else1) where
+module _ (c : tie.Else-shape_broken) where
   abbrev at : tie.Start
   at = c.before.before.before.before.before
 
   whole : (free counts : List ℕ) → shape_broken (book at free counts).space (length (book at free counts).heads) ≡ false
-  whole free counts = sym (c.before.shape-broken.ensures free) ∙ c.if1.false
+  whole free counts = sym (c.before.shape_broken.ensures free) ∙ c.if-shape_broken.false
 
   within : at.args.mark ≤ length at.args.body.now
   within = (shape_holds (book at [] []).space (length (book at [] []).heads) (whole [] [])).0.within
 
 -- the key was read
-module _ (c : tie.After-read-key) where
-  abbrev there : tie.Else2
+module _ (c : tie.After-read_key-counts) where
+  abbrev there : tie.Else-heads-key
   there = c.before.before.before
 
   abbrev call : tie.Start
   call = at there.before
 
   is : (free counts : List ℕ) → asked call free counts ≡ answered reading (in_room (room call) (held call))
-  is free counts = read_key (book call free counts) call.args.key (room call) (whole there.before free counts) there.if2.left
+  is free counts = read_key (book call free counts) call.args.key (room call) (whole there.before free counts) there.if-heads-key.left
 
-shape-broken-requires : tie.Need-shape-broken-requires
-shape-broken-requires c κs = search rules
+shape_broken-requires : tie.Need-shape_broken-requires
+shape_broken-requires c κs = search rules
 
-returns : tie.Need-returns
-returns c =
+returns-then-shape_broken : tie.Need-returns-then-shape_broken
+returns-then-shape_broken c =
     let t = c.before.before.before.before.before in
     for_any (asked t) t.args.out.now (λ free counts. read_no (asked t free counts) t.args.out.now
-    (read_broken (book t free counts) t.args.key (room t) (sym (c.before.shape-broken.ensures free) ∙ c.if1.true)))
+    (read_broken (book t free counts) t.args.key (room t) (sym (c.before.shape_broken.ensures free) ∙ c.if-shape_broken.true)))
 
-returns-2 : tie.Need-returns-2
-returns-2 c =
+returns-then-heads-key : tie.Need-returns-then-heads-key
+returns-then-heads-key c =
     let e = c.before in
     let t = at e in
     for_any (asked t) t.args.out.now (λ free counts. read_no (asked t free counts) t.args.out.now
-    (read_beyond (book t free counts) t.args.key (room t) (whole e free counts) c.if2.true))
+    (read_beyond (book t free counts) t.args.key (room t) (whole e free counts) c.if-heads-key.true))
 
-mul-word : tie.Need-overflow-mul-word
-mul-word c = search rules
+offset_bounds-heads-key : tie.Need-offset_bounds-heads-key
+offset_bounds-heads-key c = search rules
 
-shared-slice-read-word : tie.Need-shared-slice-read-word
-shared-slice-read-word c = search rules
+bounds-heads-key : tie.Need-bounds-heads-key
+bounds-heads-key c = search rules
 
-read-key-requires : tie.Need-read-key-requires
-read-key-requires c κs = within c.before.before.before
+read_key-counts-requires : tie.Need-read_key-counts-requires
+read_key-counts-requires c κs = within c.before.before.before
 
-enum-known-counts : tie.Need-enum-known-counts
-enum-known-counts c = search rules
+enum_known-counts : tie.Need-enum_known-counts
+enum_known-counts c = search rules
 
-enum_told : tie.Need-enum-told
-enum_told c = search rules
+enum_told-1 : tie.Need-enum_told-1
+enum_told-1 c = search rules
 
 refusal-requires : tie.Need-refusal-requires
 refusal-requires c κs = search rules
 
-same_length : tie.Need-same-length
-same_length c = search rules
+shape_of-out-in_default : tie.Need-shape_of-out-in_default
+shape_of-out-in_default c = search rules
 
-returns-3 : tie.Need-returns-3
-returns-3 c =
+returns-in_default : tie.Need-returns-in_default
+returns-in_default c =
     let r = c.before.before.before.before.before in
     let t = call r in
-    let number = refused_as _ _ (ap counts_answer c.before.enum_told.given.1) c.refusal.ensures in
+    let number = refused_as _ _ (ap counts_answer c.before.enum_told-1.given.1) c.refusal.ensures in
     for_any (asked t) t.args.out.now (λ free counts.
-    read_refused (asked t free counts) (held t) (counts_answer r.read_key.result) t.args.out.now _ (is r free counts)
-    r.read_key.ensures number)
+    read_refused (asked t free counts) (held t) (counts_answer r.read_key-counts.result) t.args.out.now _ (is r free counts)
+    r.read_key-counts.ensures number)
 
-same-length-2 : tie.Need-same-length-2
-same-length-2 c = search rules
+shape_of-out : tie.Need-shape_of-out
+shape_of-out c = search rules
 
-returns-4 : tie.Need-returns-4
-returns-4 c =
+returns : tie.Need-returns
+returns c =
     let d = c.before in
     let r = d.before.before.before.before in
     let t = call r in
     for_any (asked t) t.args.out.now (λ free counts.
-    read_accepted (asked t free counts) (held t) (counts_answer r.read_key.result) t.args.out.now _ (is r free counts)
-    r.read_key.ensures
-    (record { length = d.counts.given.0.0; pages = d.counts.given.0.1.0; padded = d.counts.given.0.1.1.0 })
-    (ap counts_answer d.counts.given.1))
+    read_accepted (asked t free counts) (held t) (counts_answer r.read_key-counts.result) t.args.out.now _ (is r free counts)
+    r.read_key-counts.ensures
+    (record { length = d.counts-1.given.0.0; pages = d.counts-1.given.0.1.0; padded = d.counts-1.given.0.1.1.0 })
+    (ap counts_answer d.counts-1.given.1))
 
 pub read_spec : {M : Type 1} → statement M
 read_spec =
     tie.close
     (tie.spec
-    shape-broken-requires
-    returns
-    returns-2
-    mul-word
-    shared-slice-read-word
-    read-key-requires
-    enum-known-counts
-    enum_told
+    shape_broken-requires
+    returns-then-shape_broken
+    returns-then-heads-key
+    offset_bounds-heads-key
+    bounds-heads-key
+    read_key-counts-requires
+    enum_known-counts
+    enum_told-1
     refusal-requires
-    same_length
-    returns-3
-    same-length-2
-    returns-4)
+    shape_of-out-in_default
+    returns-in_default
+    shape_of-out
+    returns)

@@ -14,15 +14,15 @@ use Rattle.book_rules.proofs.LawsOffered.{rising_on}
 use Rattle.book_rules.proofs.offered.judge_behind.Statement.{statement}
 use Rattle.book_rules.proofs.offered.judge_behind.Tie as tie
 
-returns : tie.Need-returns
+returns-then-prev-eq0 : tie.Need-returns-then-prev-eq0
 unfolding offered_number refuse_if
-returns c =
+returns-then-prev-eq0 c =
     let a = c.before.before.args in
     rw (eq-eqb a.prev 0 (omega arith), eq-eqb a.fk 0 (omega arith))
 
-returns-2 : tie.Need-returns-2
+returns-then-fk-prev : tie.Need-returns-then-fk-prev
 unfolding offered_number refuse_if
-returns-2 c =
+returns-then-fk-prev c =
     let a = c.before.before.args in
     rw (
       ne_eqb a.prev 0 (λ (e : a.prev ≡ 0). omega arith),
@@ -31,15 +31,15 @@ returns-2 c =
       le-leb a.fk a.prev (omega arith),
     )
 
-returns-3 : tie.Need-returns-3
+returns-then-fk-ge-BIT_63 : tie.Need-returns-then-fk-ge-BIT_63
 unfolding offered_number refuse_if
-returns-3 c =
+returns-then-fk-ge-BIT_63 c =
     let a = c.before.before.before.args in
     rw (and_no (eqb a.prev 0) (eqb a.fk 0) (ne_eqb a.fk 0 (λ (e : a.fk ≡ 0). omega arith)), le-leb (2 ^ 63) a.fk (omega arith))
 
-returns-4 : tie.Need-returns-4
+returns-then-fk-ge-TOO_LARGE : tie.Need-returns-then-fk-ge-TOO_LARGE
 unfolding offered_number refuse_if
-returns-4 c =
+returns-then-fk-ge-TOO_LARGE c =
     let a = c.before.before.before.args in
     rw (
       and_no (eqb a.prev 0) (eqb a.fk 0) (ne_eqb a.fk 0 (λ (e : a.fk ≡ 0). omega arith)),
@@ -47,17 +47,17 @@ returns-4 c =
       le-leb (2 ^ 62) a.fk (omega arith),
     )
 
-sub-uleb128-len : tie.Need-overflow-sub-uleb128-len
-sub-uleb128-len c = search rules
+overflow_sub-fk : tie.Need-overflow_sub-fk
+overflow_sub-fk c = search rules
 
-uleb128-len-requires : tie.Need-uleb128-len-requires
-uleb128-len-requires c κs = search rules
+uleb128_len-requires : tie.Need-uleb128_len-requires
+uleb128_len-requires c κs = search rules
 
-returns-5 : tie.Need-returns-5
-returns-5 c =
+returns : tie.Need-returns
+returns c =
     let a = c.before.before.before.args in
-    ap accepted c.uleb128-len.ensures
+    ap accepted c.uleb128_len.ensures
     ∙ sym (rising_on (eqb a.prev 0) a.prev a.fk (accepted (uleb_len (a.fk - a.prev))) (omega arith) (omega arith))
 
-pub judge-behind-spec : {M : Type 1} → statement M
-judge-behind-spec = tie.close (tie.spec returns returns-2 returns-3 returns-4 sub-uleb128-len uleb128-len-requires returns-5)
+pub judge_behind_spec : {M : Type 1} → statement M
+judge_behind_spec = tie.close (tie.spec returns-then-prev-eq0 returns-then-fk-prev returns-then-fk-ge-BIT_63 returns-then-fk-ge-TOO_LARGE overflow_sub-fk uleb128_len-requires returns)

@@ -20,81 +20,81 @@ use Rattle.book_rules.proofs.LawsOffered.{offered_on, offered_from, from_start, 
 use Rattle.book_rules.proofs.offered.judge_list.Statement.{statement}
 use Rattle.book_rules.proofs.offered.judge_list.Tie as tie
 
-abbrev invariant_loop : tie.invariant_loop
+abbrev invariant_loop : tie.invariant-loop-k
 invariant_loop fks prev₀ len₀ k₀ prev len k =
     (k ≤ length fks) × (prev < 2 ^ 62) × (len ≤ 10 * k)
     × (offered_from len prev (drop k fks) ≡ offered_list true 0 fks (accepted (stream_len fks)))
 
-abbrev decreases_loop : tie.decreases_loop
+abbrev decreases_loop : tie.decreases-loop-k
 decreases_loop fks prev₀ len₀ k₀ prev len k = length fks - k
 
 -- in a turn whose number was accepted
-module _ (c : tie.After-known-told invariant_loop decreases_loop) where
-  abbrev loc : tie.At-loop invariant_loop decreases_loop
+module _ (c : tie.In-Bytes invariant_loop decreases_loop) where
+  abbrev loc : tie.At-loop-k invariant_loop decreases_loop
   loc = c.before.before.before.before.before.before
 
   abbrev numbers : List ℕ
   numbers = loc.before.before.args.fks.now
 
   abbrev fk : ℕ
-  fk = get_or numbers loc.loop.k 0
+  fk = get_or numbers loc.loop-k.k 0
 
   abbrev more : ℕ
-  more = c.before.got.given.0.0
+  more = c.before.got-1.given.0.0
 
   -- what the number by itself was answered
-  is : offered_number (eqb loc.loop.prev 0) loc.loop.prev fk (accepted (uleb_len (fk - loc.loop.prev))) ≡ accepted more
-  is = sym c.before.before.before.judge-behind.ensures ∙ ap bytes_answer c.before.got.given.1
+  is : offered_number (eqb loc.loop-k.prev 0) loc.loop-k.prev fk (accepted (uleb_len (fk - loc.loop-k.prev))) ≡ accepted more
+  is = sym c.before.before.before.judge_behind-got.ensures ∙ ap bytes_answer c.before.got-1.given.1
 
   -- it is above the one before it and below 2^62, and its form is as long as told
-  known : (loc.loop.prev < fk) × (fk < 2 ^ 62) × (accepted (uleb_len (fk - loc.loop.prev)) ≡ accepted more)
-  known = offered_on (eqb loc.loop.prev 0) loc.loop.prev fk (accepted (uleb_len (fk - loc.loop.prev))) is
+  known : (loc.loop-k.prev < fk) × (fk < 2 ^ 62) × (accepted (uleb_len (fk - loc.loop-k.prev)) ≡ accepted more)
+  known = offered_on (eqb loc.loop-k.prev 0) loc.loop-k.prev fk (accepted (uleb_len (fk - loc.loop-k.prev))) is
 
   -- its form has at most 10 bytes
   short : more ≤ 10
   short =
       let (rises, low, same) = known in
-      omega (arith, accepted_inj same, len_at_most (fk - loc.loop.prev) (omega arith))
+      omega (arith, accepted_inj same, len_at_most (fk - loc.loop-k.prev) (omega arith))
 
-loop-holds : tie.Need-loop-init invariant_loop decreases_loop
-loop-holds c = (search rules, search rules, search rules, from_start c.before.args.fks.now)
+loop-k-init : tie.Need-loop-k-init invariant_loop decreases_loop
+loop-k-init c = (search rules, search rules, search rules, from_start c.before.args.fks.now)
 
-mul-fk : tie.Need-overflow-mul-fk invariant_loop decreases_loop
-mul-fk c = search rules
+offset_bounds-fks-k : tie.Need-offset_bounds-fks-k invariant_loop decreases_loop
+offset_bounds-fks-k c = search rules
 
-shared-slice-read-fk : tie.Need-shared-slice-read-fk invariant_loop decreases_loop
-shared-slice-read-fk c = search rules
+bounds-fks-k : tie.Need-bounds-fks-k invariant_loop decreases_loop
+bounds-fks-k c = search rules
 
-judge-behind-requires : tie.Need-judge-behind-requires invariant_loop decreases_loop
-judge-behind-requires c κs = search rules
+judge_behind-got-requires : tie.Need-judge_behind-got-requires invariant_loop decreases_loop
+judge_behind-got-requires c κs = search rules
 
-enum-known-got : tie.Need-enum-known-got invariant_loop decreases_loop
-enum-known-got c = search rules
+enum_known-got : tie.Need-enum_known-got invariant_loop decreases_loop
+enum_known-got c = search rules
 
-enum_told : tie.Need-enum-told invariant_loop decreases_loop
-enum_told c = search rules
+enum_told-1 : tie.Need-enum_told-1 invariant_loop decreases_loop
+enum_told-1 c = search rules
 
-returns : tie.Need-returns invariant_loop decreases_loop
-returns c =
+returns-in_default : tie.Need-returns-in_default invariant_loop decreases_loop
+returns-in_default c =
     let l = c.before.before.before.before.before in
     let fks = l.before.before.args.fks.now in
-    let told = c.enum_told.given in
-    let stop = sym c.before.before.judge-behind.ensures ∙ ap bytes_answer told.1 in
-    ap bytes_answer told.1 ∙ sym (from_refused l.loop.len l.loop.prev (get_or fks l.loop.k 0) (drop (l.loop.k + 1) fks) stop)
-    ∙ (rw (front fks l.loop.k (omega arith)) at l.loop.invariant.3)
+    let told = c.enum_told-1.given in
+    let stop = sym c.before.before.judge_behind-got.ensures ∙ ap bytes_answer told.1 in
+    ap bytes_answer told.1 ∙ sym (from_refused l.loop-k.len l.loop-k.prev (get_or fks l.loop-k.k 0) (drop (l.loop-k.k + 1) fks) stop)
+    ∙ (rw (front fks l.loop-k.k (omega arith)) at l.loop-k.invariant.3)
 
-add-len : tie.Need-overflow-add-len invariant_loop decreases_loop
-add-len c = omega (arith, short c)
+overflow_add-len : tie.Need-overflow_add-len invariant_loop decreases_loop
+overflow_add-len c = omega (arith, short c)
 
-add-k : tie.Need-overflow-add-k invariant_loop decreases_loop
-add-k c = search rules
+overflow_add-k : tie.Need-overflow_add-k invariant_loop decreases_loop
+overflow_add-k c = search rules
 
-loop-less : tie.Need-loop-smaller invariant_loop decreases_loop
-loop-less c = search rules
+loop-k-smaller : tie.Need-loop-k-smaller invariant_loop decreases_loop
+loop-k-smaller c = search rules
 
-loop-again : tie.Need-loop-preserved invariant_loop decreases_loop
-loop-again c =
-    let l = (loc c).loop in
+loop-k-preserved : tie.Need-loop-k-preserved invariant_loop decreases_loop
+loop-k-preserved c =
+    let l = (loc c).loop-k in
     let front-here = front (numbers c) l.k (omega arith) in (
       search rules,
       (known c).1,
@@ -102,28 +102,28 @@ loop-again c =
       sym (from_more l.len l.prev (fk c) (drop (l.k + 1) (numbers c)) (is c)) ∙ (rw front-here at l.inv.3),
     )
 
-returns-2 : tie.Need-returns-2 invariant_loop decreases_loop
-returns-2 c =
-    let l = c.before.loop in
+returns : tie.Need-returns invariant_loop decreases_loop
+returns c =
+    let l = c.before.loop-k in
     let fks = c.before.before.before.args.fks.now in
     let end : drop l.k fks ≡ [] = drop_of_length-le fks {i = l.k} (omega arith) in
     sym (from_end l.len l.prev) ∙ (rw end at l.invariant.3)
 
-pub judge-list-spec : {M : Type 1} → statement M
-judge-list-spec =
+pub judge_list_spec : {M : Type 1} → statement M
+judge_list_spec =
     tie.close
     (tie.spec
     invariant_loop
     decreases_loop
-    loop-holds
-    mul-fk
-    shared-slice-read-fk
-    judge-behind-requires
-    enum-known-got
-    enum_told
-    returns
-    add-len
-    add-k
-    loop-less
-    loop-again
-    returns-2)
+    loop-k-init
+    offset_bounds-fks-k
+    bounds-fks-k
+    judge_behind-got-requires
+    enum_known-got
+    enum_told-1
+    returns-in_default
+    overflow_add-len
+    overflow_add-k
+    loop-k-smaller
+    loop-k-preserved
+    returns)

@@ -10,24 +10,24 @@ use Rattle.book_rules.proofs.LawsOffered.{rising_on}
 use Rattle.book_rules.proofs.offered.judge_number.Statement.{statement}
 use Rattle.book_rules.proofs.offered.judge_number.Tie as tie
 
-returns : tie.Need-returns
+returns-then-n-eq0 : tie.Need-returns-then-n-eq0
 unfolding offered_number refuse_if
-returns c = rw (eq-eqb c.before.args.n 0 (omega arith))
+returns-then-n-eq0 c = rw (eq-eqb c.before.args.n 0 (omega arith))
 
-returns-2 : tie.Need-returns-2
+returns-then-n-ge-BIT_63 : tie.Need-returns-then-n-ge-BIT_63
 unfolding offered_number refuse_if
-returns-2 c =
+returns-then-n-ge-BIT_63 c =
     let a = c.before.before.args in
     rw (ne_eqb a.n 0 (λ (e : a.n ≡ 0). omega arith), le-leb (2 ^ 63) a.n (omega arith))
 
-returns-3 : tie.Need-returns-3
+returns-then-n-ge-TOO_LARGE : tie.Need-returns-then-n-ge-TOO_LARGE
 unfolding offered_number refuse_if
-returns-3 c =
+returns-then-n-ge-TOO_LARGE c =
     let a = c.before.before.before.args in
     rw (ne_eqb a.n 0 (λ (e : a.n ≡ 0). omega arith), lt-leb (2 ^ 63) a.n (omega arith), le-leb (2 ^ 62) a.n (omega arith))
 
-returns-4 : tie.Need-returns-4
-returns-4 c = sym (ap refusal_of (rising_on true 0 c.before.before.before.args.n (accepted 0) (omega arith) (omega arith)))
+returns : tie.Need-returns
+returns c = sym (ap refusal_of (rising_on true 0 c.before.before.before.args.n (accepted 0) (omega arith) (omega arith)))
 
-pub judge-number-spec : {M : Type 1} → statement M
-judge-number-spec = tie.close (tie.spec returns returns-2 returns-3 returns-4)
+pub judge_number_spec : {M : Type 1} → statement M
+judge_number_spec = tie.close (tie.spec returns-then-n-eq0 returns-then-n-ge-BIT_63 returns-then-n-ge-TOO_LARGE returns)

@@ -7,42 +7,42 @@ use Rattle.book_rules.proofs.LawsRules.{loads_none, loads_by_bytes}
 use Rattle.book_rules.proofs.places.loads_to.Statement.{statement}
 use Rattle.book_rules.proofs.places.loads_to.Tie as tie
 
-returns : tie.Need-returns
-returns c = sym (loads_none c.before.args.fit c.before.args.count c.before.args.bytes (omega arith))
+returns-then-count-gt-MOST_IN_SLAB : tie.Need-returns-then-count-gt-MOST_IN_SLAB
+returns-then-count-gt-MOST_IN_SLAB c = sym (loads_none c.before.args.fit c.before.args.count c.before.args.bytes (omega arith))
 
-enum_told : tie.Need-enum-told
-enum_told c = search rules
+enum_told-1 : tie.Need-enum_told-1
+enum_told-1 c = search rules
 
-moves-to-requires : tie.Need-moves-to-requires
-moves-to-requires c κs = search rules
+moves_to-requires : tie.Need-moves_to-requires
+moves_to-requires c κs = search rules
 
-enum-told-2 : tie.Need-enum-told-2
-enum-told-2 c = search rules
+enum_told-in-Tight : tie.Need-enum_told-in-Tight
+enum_told-in-Tight c = search rules
 
-add-slab-class-for-packed-len : tie.Need-overflow-add-slab-class-for-packed-len
-add-slab-class-for-packed-len c = search rules
+overflow_add-bytes : tie.Need-overflow_add-bytes
+overflow_add-bytes c = search rules
 
-slab-class-for-packed-len-requires : tie.Need-slab-class-for-packed-len-requires
-slab-class-for-packed-len-requires c κs = search rules
+slab_class_for_packed_len-requires : tie.Need-slab_class_for_packed_len-requires
+slab_class_for_packed_len-requires c κs = search rules
 
-returns-2 : tie.Need-returns-2
+returns-in-Spare : tie.Need-returns-in-Spare
 unfolding loads_to
-returns-2 c = rw c.before.enum_told.given.1 c.moves_to.ensures
+returns-in-Spare c = rw c.before.enum_told-1.given.1 c.moves_to.ensures
 
-returns-3 : tie.Need-returns-3
-returns-3 c =
+returns-in-Tight : tie.Need-returns-in-Tight
+returns-in-Tight c =
     let a = c.before.before.before.before.args in
-    rw c.before.enum-told2.given.1 (c.slab-class-for-packed-len.ensures ∙ sym (loads_by_bytes a.count a.bytes (omega arith)))
+    rw c.before.enum_told-in-Tight-1.given.1 (c.slab_class_for_packed_len.ensures ∙ sym (loads_by_bytes a.count a.bytes (omega arith)))
 
-pub loads-to-spec : {M : Type 1} → statement M
-loads-to-spec =
+pub loads_to_spec : {M : Type 1} → statement M
+loads_to_spec =
     tie.close
     (tie.spec
-    returns
-    enum_told
-    moves-to-requires
-    enum-told-2
-    add-slab-class-for-packed-len
-    slab-class-for-packed-len-requires
-    returns-2
-    returns-3)
+    returns-then-count-gt-MOST_IN_SLAB
+    enum_told-1
+    moves_to-requires
+    enum_told-in-Tight
+    overflow_add-bytes
+    slab_class_for_packed_len-requires
+    returns-in-Spare
+    returns-in-Tight)

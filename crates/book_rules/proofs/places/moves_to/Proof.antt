@@ -7,36 +7,36 @@ use Rattle.book_rules.proofs.LawsRules.{moves_none, moves_by_bytes}
 use Rattle.book_rules.proofs.places.moves_to.Statement.{statement}
 use Rattle.book_rules.proofs.places.moves_to.Tie as tie
 
+returns-then-count-gt-MOST_IN_SLAB : tie.Need-returns-then-count-gt-MOST_IN_SLAB
+returns-then-count-gt-MOST_IN_SLAB c = sym (moves_none c.before.args.count c.before.args.bytes (omega arith))
+
+spare_bytes-requires : tie.Need-spare_bytes-requires
+spare_bytes-requires c κs = search rules
+
+overflow_add-bytes : tie.Need-overflow_add-bytes
+overflow_add-bytes c = search rules
+
+larger-wanted-requires : tie.Need-larger-wanted-requires
+larger-wanted-requires c κs = search rules
+
+slab_class_for_packed_len-requires : tie.Need-slab_class_for_packed_len-requires
+slab_class_for_packed_len-requires c κs = search rules
+
 returns : tie.Need-returns
-returns c = sym (moves_none c.before.args.count c.before.args.bytes (omega arith))
-
-spare-bytes-requires : tie.Need-spare-bytes-requires
-spare-bytes-requires c κs = search rules
-
-add-larger : tie.Need-overflow-add-larger
-add-larger c = search rules
-
-larger-requires : tie.Need-larger-requires
-larger-requires c κs = search rules
-
-slab-class-for-packed-len-requires : tie.Need-slab-class-for-packed-len-requires
-slab-class-for-packed-len-requires c κs = search rules
-
-returns-2 : tie.Need-returns-2
-returns-2 c =
+returns c =
     let wanted = c.before in
     let spare = wanted.before in
     let a = spare.before.before.args in
-    c.slab-class-for-packed-len.ensures ∙ ap class_by_bytes wanted.larger.ensures
+    c.slab_class_for_packed_len.ensures ∙ ap class_by_bytes wanted.larger-wanted.ensures
     ∙ sym (moves_by_bytes a.count a.bytes spare.spare_bytes.result spare.spare_bytes.ensures)
 
-pub moves-to-spec : {M : Type 1} → statement M
-moves-to-spec =
+pub moves_to_spec : {M : Type 1} → statement M
+moves_to_spec =
     tie.close
     (tie.spec
-    returns
-    spare-bytes-requires
-    add-larger
-    larger-requires
-    slab-class-for-packed-len-requires
-    returns-2)
+    returns-then-count-gt-MOST_IN_SLAB
+    spare_bytes-requires
+    overflow_add-bytes
+    larger-wanted-requires
+    slab_class_for_packed_len-requires
+    returns)

@@ -19,29 +19,29 @@ slots class h = mod-eq_of_lt (size_below 2 class 64 (omega arith))
 bytes : (class : ℕ) → class ≤ max_slab_class → slab_bytes class % 2 ^ 64 ≡ slab_bytes class
 bytes class h = mod-eq_of_lt (size_below 4 class 64 (omega arith))
 
-returns : tie.Need-returns
+returns-then-count-gt-MOST_IN_SLAB : tie.Need-returns-then-count-gt-MOST_IN_SLAB
 unfolding stays
-returns c = rw (lt-leb c.before.args.count max_slab_count (omega arith))
+returns-then-count-gt-MOST_IN_SLAB c = rw (lt-leb c.before.args.count max_slab_count (omega arith))
 
-shl-slots : tie.Need-overflow-shl-slots
-shl-slots c = search rules
+overflow_shl-slots : tie.Need-overflow_shl-slots
+overflow_shl-slots c = search rules
 
-returns-2 : tie.Need-returns-2
+returns-then-slots-count : tie.Need-returns-then-slots-count
 unfolding stays
-returns-2 c =
+returns-then-slots-count c =
     let a = c.before.before.args in
     let s = slots a.class (omega arith) in
     rw (le-leb a.count max_slab_count (omega arith), lt-leb a.count (slab_slots a.class) (omega arith))
 
-shl-size : tie.Need-overflow-shl-size
-shl-size c = search rules
+overflow_shl-size : tie.Need-overflow_shl-size
+overflow_shl-size c = search rules
 
-add-result : tie.Need-overflow-add-result
-add-result c = search rules
+overflow_add-result : tie.Need-overflow_add-result
+overflow_add-result c = search rules
 
-returns-3 : tie.Need-returns-3
+returns : tie.Need-returns
 unfolding stays
-returns-3 c =
+returns c =
     let a = c.before.before.args in
     let s = slots a.class (omega arith) in
     rw (
@@ -50,5 +50,5 @@ returns-3 c =
       bytes a.class (omega arith),
     )
 
-pub stays-spec : {M : Type 1} → statement M
-stays-spec = tie.close (tie.spec returns shl-slots returns-2 shl-size add-result returns-3)
+pub stays_spec : {M : Type 1} → statement M
+stays_spec = tie.close (tie.spec returns-then-count-gt-MOST_IN_SLAB overflow_shl-slots returns-then-slots-count overflow_shl-size overflow_add-result returns)

@@ -5,17 +5,17 @@ use borrow.Author.Rules.{rules}
 use Rattle.book_space.proofs.desks.freed_left.Statement.{statement}
 use Rattle.book_space.proofs.desks.freed_left.Tie as tie
 
+returns-then-head-eq0 : tie.Need-returns-then-head-eq0
+returns-then-head-eq0 c = rw (eq-eqb c.before.args.head 0 c.if-head-eq0.true)
+
+returns-then-freed-eq0 : tie.Need-returns-then-freed-eq0
+returns-then-freed-eq0 c = rw (ne_eqb c.before.before.args.head 0 c.before.if-head-eq0.false) (omega arith)
+
+overflow_sub-result : tie.Need-overflow_sub-result
+overflow_sub-result c = search rules
+
 returns : tie.Need-returns
-returns c = rw (eq-eqb c.before.args.head 0 c.if1.true)
+returns c = rw (ne_eqb c.before.before.args.head 0 c.before.if-head-eq0.false)
 
-returns-2 : tie.Need-returns-2
-returns-2 c = rw (ne_eqb c.before.before.args.head 0 c.before.if1.false) (omega arith)
-
-sub-result : tie.Need-overflow-sub-result
-sub-result c = search rules
-
-returns-3 : tie.Need-returns-3
-returns-3 c = rw (ne_eqb c.before.before.args.head 0 c.before.if1.false)
-
-pub freed-left-spec : {M : Type 1} → statement M
-freed-left-spec = tie.close (tie.spec returns returns-2 sub-result returns-3)
+pub freed_left_spec : {M : Type 1} → statement M
+freed_left_spec = tie.close (tie.spec returns-then-head-eq0 returns-then-freed-eq0 overflow_sub-result returns)

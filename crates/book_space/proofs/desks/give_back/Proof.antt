@@ -14,7 +14,7 @@ use Rattle.book_space.proofs.desks.give_back.Statement.{statement}
 use Rattle.book_space.proofs.desks.give_back.Tie as tie
 
 -- the counts aren't high
-module _ (t : tie.Else1) where
+module _ (t : tie.Else-counts_high) where
   abbrev start : tie.Start
   start = t.before.before.before
 
@@ -22,67 +22,67 @@ module _ (t : tie.Else1) where
   counts = start.args.counts.now
 
   low : counts_high start.args.size counts ≡ false
-  low = sym t.before.counts-high.ensures ∙ t.if1.left
+  low = sym t.before.counts_high.ensures ∙ t.if-counts_high.left
 
-counts-high-requires : tie.Need-counts-high-requires
-counts-high-requires c κs = search rules
+counts_high-requires : tie.Need-counts_high-requires
+counts_high-requires c κs = search rules
 
-returns : tie.Need-returns
-returns c =
+returns-then-counts_high : tie.Need-returns-then-counts_high
+returns-then-counts_high c =
     let start = c.before.before.before in
     let a = start.args in
-    let high = sym c.before.counts-high.ensures ∙ c.if1.true in
+    let high = sym c.before.counts_high.ensures ∙ c.if-counts_high.true in
     let is = back_high a.size a.desk a.pages a.counts.now start.requires.some {A = List ℕ} accepted high in
     record { told = number_refused is; left = value_refused (λ (x : List ℕ). x) a.counts.now is }
 
-add-held : tie.Need-overflow-add-held
-add-held c = search rules
+overflow_add-held : tie.Need-overflow_add-held
+overflow_add-held c = search rules
 
-mul-held : tie.Need-overflow-mul-held
-mul-held c = search rules
+offset_bounds-counts-desk : tie.Need-offset_bounds-counts-desk
+offset_bounds-counts-desk c = search rules
 
-element-copy-out-held : tie.Need-element-copy-out-held
-element-copy-out-held c = search rules
+bounds-counts-desk : tie.Need-bounds-counts-desk
+bounds-counts-desk c = search rules
 
-returns-2 : tie.Need-returns-2
-returns-2 c =
+returns-then-held-pages : tie.Need-returns-then-held-pages
+returns-then-held-pages c =
     let t = c.before.before in
     let a = (start t).args in
-    let is = back_few a.size a.desk a.pages (counts t) (start t).requires.some {A = List ℕ} accepted (low t) c.if2.true in
+    let is = back_few a.size a.desk a.pages (counts t) (start t).requires.some {A = List ℕ} accepted (low t) c.if-held-pages.true in
     record { told = number_refused is; left = value_refused (λ (x : List ℕ). x) (counts t) is }
 
-element-copy-out-freed : tie.Need-element-copy-out-freed
-element-copy-out-freed c = search rules
+bounds-counts-0 : tie.Need-bounds-counts-0
+bounds-counts-0 c = search rules
 
-add-put-counts : tie.Need-overflow-add-put-counts
-add-put-counts c =
+overflow_add-freed : tie.Need-overflow_add-freed
+overflow_add-freed c =
     let t = c.before.before.before.before in
     let a = (start t).args in
     let l = counts_low a.size (counts t) (low t) in
-    omega (arith, l.freed, l.held a.desk (start t).requires.known, c.before.before.if2.false)
+    omega (arith, l.freed, l.held a.desk (start t).requires.known, c.before.before.if-held-pages.false)
 
-put-counts-requires : tie.Need-put-counts-requires
-put-counts-requires c κs = search rules
+put_counts-requires : tie.Need-put_counts-requires
+put_counts-requires c κs = search rules
 
-returns-3 : tie.Need-returns-3
-returns-3 c =
+returns : tie.Need-returns
+returns c =
     let t = c.before.before.before.before.before in
     let a = (start t).args in
     let is = back_given a.size a.desk a.pages (counts t) (start t).requires.some {A = List ℕ} accepted (low t)
-    c.before.before.before.if2.false in
-    record { told = number_accepted is; left = c.put-counts.ensures ∙ value_accepted (λ (x : List ℕ). x) (counts t) is }
+    c.before.before.before.if-held-pages.false in
+    record { told = number_accepted is; left = c.put_counts.ensures ∙ value_accepted (λ (x : List ℕ). x) (counts t) is }
 
-pub give-back-spec : {M : Type 1} → statement M
-give-back-spec =
+pub give_back_spec : {M : Type 1} → statement M
+give_back_spec =
     tie.close
     (tie.spec
-    counts-high-requires
-    returns
-    add-held
-    mul-held
-    element-copy-out-held
-    returns-2
-    element-copy-out-freed
-    add-put-counts
-    put-counts-requires
-    returns-3)
+    counts_high-requires
+    returns-then-counts_high
+    overflow_add-held
+    offset_bounds-counts-desk
+    bounds-counts-desk
+    returns-then-held-pages
+    bounds-counts-0
+    overflow_add-freed
+    put_counts-requires
+    returns)

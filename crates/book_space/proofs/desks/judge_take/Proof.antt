@@ -7,18 +7,18 @@ use borrow.Author.Rules.{rules}
 use Rattle.book_space.proofs.desks.judge_take.Statement.{statement}
 use Rattle.book_space.proofs.desks.judge_take.Tie as tie
 
-counts-high-requires : tie.Need-counts-high-requires
-counts-high-requires c κs = search rules
+counts_high-requires : tie.Need-counts_high-requires
+counts_high-requires c κs = search rules
 
-returns : tie.Need-returns
+returns-then-counts_high : tie.Need-returns-then-counts_high
 unfolding judged_number
-returns c = rw (sym c.before.counts-high.ensures ∙ c.if1.true)
+returns-then-counts_high c = rw (sym c.before.counts_high.ensures ∙ c.if-counts_high.true)
 
 permission-requires : tie.Need-permission-requires
 permission-requires c κs =
     let start = c.before.before in
     let pre = start.requires in
-    let low = sym c.before.counts-high.ensures ∙ c.if1.false in
+    let low = sym c.before.counts_high.ensures ∙ c.if-counts_high.false in
     let freed = (counts_low start.args.end start.args.counts.now low).freed in
     record {
       low = low;
@@ -29,9 +29,9 @@ permission-requires c κs =
       within = pre.within;
     }
 
-returns-2 : tie.Need-returns-2
+returns : tie.Need-returns
 unfolding judged_number
-returns-2 c = rw (sym c.before.before.counts-high.ensures ∙ c.before.if1.false) c.permission.ensures
+returns c = rw (sym c.before.before.counts_high.ensures ∙ c.before.if-counts_high.false) c.permission.ensures
 
-pub judge-take-spec : {M : Type 1} → statement M
-judge-take-spec = tie.close (tie.spec counts-high-requires returns permission-requires returns-2)
+pub judge_take_spec : {M : Type 1} → statement M
+judge_take_spec = tie.close (tie.spec counts_high-requires returns-then-counts_high permission-requires returns)

@@ -40,85 +40,85 @@ module _ (start : tie.Start) where
   later = counted left desk (held_count desk counts + 1) counts
 
 -- the free head and the count agree
-module _ (t : tie.After-peek-block) where
+module _ (t : tie.After-peek_block-ahead) where
   abbrev begun : tie.Start
   begun = t.before.before.before.before.before.before.before.before.before
 
   tested : freed_untrue (before begun) (counts begun) ≡ false
   unfolding freed_untrue
-  tested = sym t.before.before.before.before.before.freed-untrue.ensures ∙ t.before.before.before.before.if1.left
+  tested = sym t.before.before.before.before.before.freed_untrue.ensures ∙ t.before.before.before.before.if-freed_untrue.left
 
 -- the take would be accepted, and leave a mark
-module _ (k : tie.After-known-told) where
-  abbrev looked : tie.After-peek-block
+module _ (k : tie.In-Mark) where
+  abbrev looked : tie.After-peek_block-ahead
   looked = k.before.before.before
 
   abbrev end : ℕ
-  end = k.before.ahead.given.0.0
+  end = k.before.ahead-1.given.0.0
 
   ahead : answered mark_after (take_block page_class (before (begun looked))) ≡ accepted end
-  ahead = sym looked.peek-block.ensures ∙ ap peek_answer k.before.ahead.given.1
+  ahead = sym looked.peek_block-ahead.ensures ∙ ap peek_answer k.before.ahead-1.given.1
 
 -- its judgement
-module _ (j : tie.After-judge-take) where
-  abbrev known : tie.After-known-told
+module _ (j : tie.After-judge_take-number) where
+  abbrev known : tie.In-Mark
   known = j.before.before.before
 
   abbrev first : tie.Start
   first = begun (looked known)
 
-  judgement : j.judge-take.result ≡ judged_number (length (before first).body) (desk first) 1 (left first) (counts first) (end known)
+  judgement : j.judge_take-number.result ≡ judged_number (length (before first).body) (desk first) 1 (left first) (counts first) (end known)
   judgement =
-      j.judge-take.ensures
+      j.judge_take-number.ensures
       ∙ ap (λ (freed : ℕ). judged_number (length (before first).body) (desk first) 1 freed (counts first) (end known))
-      j.before.before.freed-left.ensures
+      j.before.before.freed_left-left.ensures
 
-element-copy-out-head : tie.Need-element-copy-out-head
-element-copy-out-head c = search rules
+bounds-free-8 : tie.Need-bounds-free-8
+bounds-free-8 c = search rules
 
-element-copy-out-freed : tie.Need-element-copy-out-freed
-element-copy-out-freed c = search rules
+bounds-counts-0 : tie.Need-bounds-counts-0
+bounds-counts-0 c = search rules
 
-freed-untrue-requires : tie.Need-freed-untrue-requires
-freed-untrue-requires c κs = search rules
+freed_untrue-requires : tie.Need-freed_untrue-requires
+freed_untrue-requires c κs = search rules
 
-returns : tie.Need-returns
+returns-then-freed_untrue : tie.Need-returns-then-freed_untrue
 unfolding page_for freed_untrue
-returns c =
+returns-then-freed_untrue c =
     let start = c.before.before.before.before.before in
-    refused_for (before start) (counts start) (refuse_yes _ _ _ (sym c.before.freed-untrue.ensures ∙ c.if1.true))
+    refused_for (before start) (counts start) (refuse_yes _ _ _ (sym c.before.freed_untrue.ensures ∙ c.if-freed_untrue.true))
 
-peek-block-requires : tie.Need-peek-block-requires
-peek-block-requires c κs = search rules
+peek_block-ahead-requires : tie.Need-peek_block-ahead-requires
+peek_block-ahead-requires c κs = search rules
 
-enum-known-ahead : tie.Need-enum-known-ahead
-enum-known-ahead c = search rules
+enum_known-ahead : tie.Need-enum_known-ahead
+enum_known-ahead c = search rules
 
-enum_told : tie.Need-enum-told
-enum_told c = search rules
+enum_told-1 : tie.Need-enum_told-1
+enum_told-1 c = search rules
 
 refusal-requires : tie.Need-refusal-requires
 refusal-requires c κs = search rules
 
-same_length : tie.Need-same-length
-same_length c = search rules
+shape_of-body-in_default : tie.Need-shape_of-body-in_default
+shape_of-body-in_default c = search rules
 
-returns-2 : tie.Need-returns-2
-returns-2 c =
+returns-in_default : tie.Need-returns-in_default
+returns-in_default c =
     let t = c.before.before.before in
     let start = begun t in
-    let is = refused_as _ _ (ap peek_answer c.before.enum_told.given.1) c.refusal.ensures in
+    let is = refused_as _ _ (ap peek_answer c.before.enum_told-1.given.1) c.refusal.ensures in
     refused_for (before start) (counts start)
     (page_tested (desk start) (before start) (counts start) (tested t)
     ∙ peek_refused (length (before start).body) (desk start) 1 (left start) (counts start) (later start)
     (take_block page_class (before start))
-    (sym t.peek-block.ensures ∙ is))
+    (sym t.peek_block-ahead.ensures ∙ is))
 
-freed-left-requires : tie.Need-freed-left-requires
-freed-left-requires c κs = search rules
+freed_left-left-requires : tie.Need-freed_left-left-requires
+freed_left-left-requires c κs = search rules
 
-judge-take-requires : tie.Need-judge-take-requires
-judge-take-requires c κs =
+judge_take-number-requires : tie.Need-judge_take-number-requires
+judge_take-number-requires c κs =
     let k = c.before.before in
     let start = begun (looked k) in
     let pre = start.pre in
@@ -126,15 +126,15 @@ judge-take-requires c κs =
       known = pre.known;
       body = pre.shape.most;
       asked = omega arith;
-      left = omega (arith, c.before.freed-left.ensures, freed_less (before start) (counts start));
+      left = omega (arith, c.before.freed_left-left.ensures, freed_less (before start) (counts start));
       within = block_within page_class (before start) (omega arith) pre.shape (ahead k);
     }
 
-same-length-2 : tie.Need-same-length-2
-same-length-2 c = search rules
+shape_of-body-then-number-ne0 : tie.Need-shape_of-body-then-number-ne0
+shape_of-body-then-number-ne0 c = search rules
 
-returns-3 : tie.Need-returns-3
-returns-3 c =
+returns-then-number-ne0 : tie.Need-returns-then-number-ne0
+returns-then-number-ne0 c =
     let j = c.before in
     let k = known j in
     let start = first j in
@@ -142,23 +142,23 @@ returns-3 c =
     (page_tested (desk start) (before start) (counts start) (tested (looked k))
     ∙ judge_refused (length (before start).body) (desk start) 1 (left start) (counts start) (later start)
     (take_block page_class (before start))
-    (ahead k) (judgement j) c.if2.true)
+    (ahead k) (judgement j) c.if-number-ne0.true)
 
-add-held : tie.Need-overflow-add-held
-add-held c = search rules
+overflow_add-held : tie.Need-overflow_add-held
+overflow_add-held c = search rules
 
-mul-held : tie.Need-overflow-mul-held
-mul-held c = search rules
+offset_bounds-counts-desk : tie.Need-offset_bounds-counts-desk
+offset_bounds-counts-desk c = search rules
 
-element-copy-out-held : tie.Need-element-copy-out-held
-element-copy-out-held c = search rules
+bounds-counts-desk : tie.Need-bounds-counts-desk
+bounds-counts-desk c = search rules
 
-add-put-counts : tie.Need-overflow-add-put-counts
-add-put-counts c =
+overflow_add-held-2 : tie.Need-overflow_add-held-2
+overflow_add-held-2 c =
     let j = c.before.before.before in
     let start = first j in
     let low = judged_low (length (before start).body) (desk start) 1 (left start) (counts start) (later start) (end (known j))
-    (judgement j) c.before.before.if2.false in
+    (judgement j) c.before.before.if-number-ne0.false in
     omega (
       arith,
       (counts_low (length (before start).body) (counts start) low).held (desk start)
@@ -166,53 +166,53 @@ add-put-counts c =
       start.pre.shape.most,
     )
 
-put-counts-requires : tie.Need-put-counts-requires
-put-counts-requires c κs = search rules
+put_counts-requires : tie.Need-put_counts-requires
+put_counts-requires c κs = search rules
 
-take-block-requires : tie.Need-take-block-requires
-take-block-requires c κs = search rules
+take_block-requires : tie.Need-take_block-requires
+take_block-requires c κs = search rules
 
-same-length-3 : tie.Need-same-length-3
-same-length-3 c = search rules
+shape_of-body : tie.Need-shape_of-body
+shape_of-body c = search rules
 
-returns-4 : tie.Need-returns-4
-returns-4 c =
+returns : tie.Need-returns
+returns c =
     let j = c.before.before.before.before.before.before.before.before.before.before in
     let k = known j in
     let start = first j in
     let take = c.before.before in
     let done = takes_for_same (page_tested (desk start) (before start) (counts start) (tested (looked k)))
     (take_judged (length (before start).body) (desk start) 1 (left start) (counts start) (later start) (take_block page_class (before start))
-    (ahead k) (judgement j) c.before.before.before.before.before.before.before.before.before.if2.false
-    take.take-block.ensures) in
-    let put = take.before.before.before.before.put-counts.ensures ∙ ap
+    (ahead k) (judgement j) c.before.before.before.before.before.before.before.before.before.if-number-ne0.false
+    take.take_block.ensures) in
+    let put = take.before.before.before.before.put_counts.ensures ∙ ap
     (λ (freed : ℕ). counted freed (desk start) (held_count (desk start) (counts start) + 1) (counts start))
-    j.before.before.freed-left.ensures in
+    j.before.before.freed_left-left.ensures in
     record { told = done.told; left = done.left; counts = put ∙ done.counts }
 
-pub page-for-spec : {M : Type 1} → statement M
-page-for-spec =
+pub page_for_spec : {M : Type 1} → statement M
+page_for_spec =
     tie.close
     (tie.spec
-    element-copy-out-head
-    element-copy-out-freed
-    freed-untrue-requires
-    returns
-    peek-block-requires
-    enum-known-ahead
-    enum_told
+    bounds-free-8
+    bounds-counts-0
+    freed_untrue-requires
+    returns-then-freed_untrue
+    peek_block-ahead-requires
+    enum_known-ahead
+    enum_told-1
     refusal-requires
-    same_length
-    returns-2
-    freed-left-requires
-    judge-take-requires
-    same-length-2
-    returns-3
-    add-held
-    mul-held
-    element-copy-out-held
-    add-put-counts
-    put-counts-requires
-    take-block-requires
-    same-length-3
-    returns-4)
+    shape_of-body-in_default
+    returns-in_default
+    freed_left-left-requires
+    judge_take-number-requires
+    shape_of-body-then-number-ne0
+    returns-then-number-ne0
+    overflow_add-held
+    offset_bounds-counts-desk
+    bounds-counts-desk
+    overflow_add-held-2
+    put_counts-requires
+    take_block-requires
+    shape_of-body
+    returns)

@@ -14,7 +14,7 @@ module _ (t : tie.Start) where
   abbrev here : Space
   here = space t.args.body.now t.args.mark t.args.free.now
 
-module _ (t : tie.After-is-block) where
+module _ (t : tie.After-is_block) where
   abbrev start : tie.Start
   start = t.before.before.before.before.before
 
@@ -25,61 +25,61 @@ module _ (t : tie.After-is-block) where
   tested =
       ap (is_block class (first_freed class (lists_of (here start)))) (sym t.before.pop_end.ensures) ∙ sym t.is_Block.ensures
 
-mul-off : tie.Need-overflow-mul-off
-mul-off c = search rules
+offset_bounds-free-idx : tie.Need-offset_bounds-free-idx
+offset_bounds-free-idx c = search rules
 
-element-copy-out-off : tie.Need-element-copy-out-off
-element-copy-out-off c = search rules
+bounds-free-idx : tie.Need-bounds-free-idx
+bounds-free-idx c = search rules
 
-peek-run-requires : tie.Need-peek-run-requires
-peek-run-requires c κs = search rules
+peek_run-requires : tie.Need-peek_run-requires
+peek_run-requires c κs = search rules
+
+returns-then-class-eq-SH_PAGE_SLAB_CLASS : tie.Need-returns-then-class-eq-SH_PAGE_SLAB_CLASS
+returns-then-class-eq-SH_PAGE_SLAB_CLASS c =
+    let start = c.before.before.before.before.before in
+    c.peek_run.ensures
+    ∙ sym (page_ahead start.args.class (here start) start.requires.low start.requires.shape
+    c.before.before.if-off-eq0.true c.before.if-class-eq-SH_PAGE_SLAB_CLASS.true)
+
+peek_slab-requires : tie.Need-peek_slab-requires
+peek_slab-requires c κs = search rules
+
+returns-then-off-eq0 : tie.Need-returns-then-off-eq0
+returns-then-off-eq0 c =
+    let start = c.before.before.before.before.before in
+    c.peek_slab.ensures
+    ∙ sym (slab_ahead start.args.class (here start) start.requires.low start.requires.shape
+    c.before.before.if-off-eq0.true c.before.if-class-eq-SH_PAGE_SLAB_CLASS.false)
+
+pop_end-requires : tie.Need-pop_end-requires
+pop_end-requires c κs = search rules
+
+is_block-requires : tie.Need-is_block-requires
+is_block-requires c κs = search rules
+
+returns-then-is_block : tie.Need-returns-then-is_block
+returns-then-is_block c =
+    let t = c.before in
+    sym (popped_ahead (class t) (here (start t)) (start t).requires.low (start t).requires.shape
+    t.before.before.if-off-eq0.false (tested t ∙ c.if-is_block.true))
 
 returns : tie.Need-returns
 returns c =
-    let start = c.before.before.before.before.before in
-    c.peek-run.ensures
-    ∙ sym (page_ahead start.args.class (here start) start.requires.low start.requires.shape
-    c.before.before.if1.true c.before.if2.true)
-
-peek-slab-requires : tie.Need-peek-slab-requires
-peek-slab-requires c κs = search rules
-
-returns-2 : tie.Need-returns-2
-returns-2 c =
-    let start = c.before.before.before.before.before in
-    c.peek-slab.ensures
-    ∙ sym (slab_ahead start.args.class (here start) start.requires.low start.requires.shape
-    c.before.before.if1.true c.before.if2.false)
-
-pop-end-requires : tie.Need-pop-end-requires
-pop-end-requires c κs = search rules
-
-is-block-requires : tie.Need-is-block-requires
-is-block-requires c κs = search rules
-
-returns-3 : tie.Need-returns-3
-returns-3 c =
-    let t = c.before in
-    sym (popped_ahead (class t) (here (start t)) (start t).requires.low (start t).requires.shape
-    t.before.before.if1.false (tested t ∙ c.if3.true))
-
-returns-4 : tie.Need-returns-4
-returns-4 c =
     let t = c.before in
     sym (bad_ahead (class t) (here (start t)) (start t).requires.low (start t).requires.shape
-    t.before.before.if1.false (tested t ∙ c.if3.false))
+    t.before.before.if-off-eq0.false (tested t ∙ c.if-is_block.false))
 
-pub peek-block-spec : {M : Type 1} → statement M
-peek-block-spec =
+pub peek_block_spec : {M : Type 1} → statement M
+peek_block_spec =
     tie.close
     (tie.spec
-    mul-off
-    element-copy-out-off
-    peek-run-requires
-    returns
-    peek-slab-requires
-    returns-2
-    pop-end-requires
-    is-block-requires
-    returns-3
-    returns-4)
+    offset_bounds-free-idx
+    bounds-free-idx
+    peek_run-requires
+    returns-then-class-eq-SH_PAGE_SLAB_CLASS
+    peek_slab-requires
+    returns-then-off-eq0
+    pop_end-requires
+    is_block-requires
+    returns-then-is_block
+    returns)

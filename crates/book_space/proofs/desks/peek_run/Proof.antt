@@ -10,32 +10,32 @@ use borrow.Author.Rules.{rules}
 use Rattle.book_space.proofs.desks.peek_run.Statement.{statement}
 use Rattle.book_space.proofs.desks.peek_run.Tie as tie
 
-sub-from : tie.Need-overflow-sub-from
-sub-from c = search rules
+overflow_sub-from : tie.Need-overflow_sub-from
+overflow_sub-from c = search rules
 
-add-from : tie.Need-overflow-add-from
-add-from c = search rules
+overflow_add-from : tie.Need-overflow_add-from
+overflow_add-from c = search rules
 
-mul-from : tie.Need-overflow-mul-from
-mul-from c = search rules
+overflow_mul-from : tie.Need-overflow_mul-from
+overflow_mul-from c = search rules
 
-mul-end : tie.Need-overflow-mul-end
-mul-end c = search rules
+overflow_mul-end : tie.Need-overflow_mul-end
+overflow_mul-end c = search rules
 
-add-end : tie.Need-overflow-add-end
-add-end c = search rules
+overflow_add-end : tie.Need-overflow_add-end
+overflow_add-end c = search rules
+
+returns-then-size-end : tie.Need-returns-then-size-end
+unfolding mark_after_run
+returns-then-size-end c =
+    let a = c.before.args in
+    sym (refuse_yes _ _ _ (lt-ltb a.size (page_after a.mark + a.pages * page_size) c.if-size-end.true))
 
 returns : tie.Need-returns
 unfolding mark_after_run
 returns c =
     let a = c.before.args in
-    sym (refuse_yes _ _ _ (lt-ltb a.size (page_after a.mark + a.pages * page_size) c.if1.true))
+    sym (refuse_no _ _ _ (le-ltb a.size (page_after a.mark + a.pages * page_size) c.if-size-end.false))
 
-returns-2 : tie.Need-returns-2
-unfolding mark_after_run
-returns-2 c =
-    let a = c.before.args in
-    sym (refuse_no _ _ _ (le-ltb a.size (page_after a.mark + a.pages * page_size) c.if1.false))
-
-pub peek-run-spec : {M : Type 1} → statement M
-peek-run-spec = tie.close (tie.spec sub-from add-from mul-from mul-end add-end returns returns-2)
+pub peek_run_spec : {M : Type 1} → statement M
+peek_run_spec = tie.close (tie.spec overflow_sub-from overflow_add-from overflow_mul-from overflow_mul-end overflow_add-end returns-then-size-end returns)

@@ -19,7 +19,7 @@ use Rattle.book_space.proofs.desks.run_at_mark_for.Statement.{statement}
 use Rattle.book_space.proofs.desks.run_at_mark_for.Tie as tie
 
 -- the arguments
-module _ (t : tie.After-peek-run) where
+module _ (t : tie.After-peek_run-ahead) where
   abbrev start : tie.Start
   start = t.before.before.before
 
@@ -38,46 +38,46 @@ module _ (t : tie.After-peek-run) where
   abbrev before : Space
   before = space start.args.body.now start.args.mark.now start.args.free.now
 
-  looks : peek_answer t.peek-run.result ≡ answered mark_after (run_at_mark pages before)
-  looks = t.peek-run.ensures ∙ sym (run_marked pages before start.pre.shape)
+  looks : peek_answer t.peek_run-ahead.result ≡ answered mark_after (run_at_mark pages before)
+  looks = t.peek_run-ahead.ensures ∙ sym (run_marked pages before start.pre.shape)
 
 -- the take would be accepted, and leave a mark
-module _ (k : tie.After-known-told) where
-  abbrev looked : tie.After-peek-run
+module _ (k : tie.In-Mark) where
+  abbrev looked : tie.After-peek_run-ahead
   looked = k.before.before.before
 
   abbrev end : ℕ
-  end = k.before.ahead.given.0.0
+  end = k.before.ahead-1.given.0.0
 
   ahead : answered mark_after (run_at_mark (pages looked) (before looked)) ≡ accepted end
-  ahead = sym (looks looked) ∙ ap peek_answer k.before.ahead.given.1
+  ahead = sym (looks looked) ∙ ap peek_answer k.before.ahead-1.given.1
 
-peek-run-requires : tie.Need-peek-run-requires
-peek-run-requires c κs = search rules
+peek_run-ahead-requires : tie.Need-peek_run-ahead-requires
+peek_run-ahead-requires c κs = search rules
 
-enum-known-ahead : tie.Need-enum-known-ahead
-enum-known-ahead c = search rules
+enum_known-ahead : tie.Need-enum_known-ahead
+enum_known-ahead c = search rules
 
-enum_told : tie.Need-enum-told
-enum_told c = search rules
+enum_told-1 : tie.Need-enum_told-1
+enum_told-1 c = search rules
 
 refusal-requires : tie.Need-refusal-requires
 refusal-requires c κs = search rules
 
-returns : tie.Need-returns
+returns-in_default : tie.Need-returns-in_default
 unfolding run_found take_found
-returns c =
+returns-in_default c =
     let t = c.before.before.before in
-    let is = refused_as _ _ (ap peek_answer c.before.enum_told.given.1) c.refusal.ensures in
+    let is = refused_as _ _ (ap peek_answer c.before.enum_told-1.given.1) c.refusal.ensures in
     refused_for (before t) (counts t)
     (peek_refused (length (before t).body) (desk t) (pages t) (freed_count (counts t)) (counts t) (later t) (run_at_mark (pages t) (before t))
     (sym (looks t) ∙ is))
 
-element-copy-out-freed : tie.Need-element-copy-out-freed
-element-copy-out-freed c = search rules
+bounds-counts-0 : tie.Need-bounds-counts-0
+bounds-counts-0 c = search rules
 
-judge-take-requires : tie.Need-judge-take-requires
-judge-take-requires c κs =
+judge_take-number-requires : tie.Need-judge_take-number-requires
+judge_take-number-requires c κs =
     let k = c.before.before in
     let pre = (start (looked k)).pre in
     record {
@@ -88,72 +88,72 @@ judge-take-requires c κs =
       within = run_within (pages (looked k)) (before (looked k)) pre.shape (ahead k);
     }
 
-returns-2 : tie.Need-returns-2
+returns-then-number-ne0 : tie.Need-returns-then-number-ne0
 unfolding run_found take_found
-returns-2 c =
+returns-then-number-ne0 c =
     let k = c.before.before.before.before in
     let t = looked k in
     refused_for (before t) (counts t)
     (judge_refused (length (before t).body) (desk t) (pages t) (freed_count (counts t)) (counts t) (later t)
-    (run_at_mark (pages t) (before t)) (ahead k) c.before.judge-take.ensures c.if1.true)
+    (run_at_mark (pages t) (before t)) (ahead k) c.before.judge_take-number.ensures c.if-number-ne0.true)
 
-add-held : tie.Need-overflow-add-held
-add-held c = search rules
+overflow_add-held : tie.Need-overflow_add-held
+overflow_add-held c = search rules
 
-mul-held : tie.Need-overflow-mul-held
-mul-held c = search rules
+offset_bounds-counts-desk : tie.Need-offset_bounds-counts-desk
+offset_bounds-counts-desk c = search rules
 
-element-copy-out-held : tie.Need-element-copy-out-held
-element-copy-out-held c = search rules
+bounds-counts-desk : tie.Need-bounds-counts-desk
+bounds-counts-desk c = search rules
 
-add-put-counts : tie.Need-overflow-add-put-counts
-add-put-counts c =
+overflow_add-held-2 : tie.Need-overflow_add-held-2
+overflow_add-held-2 c =
     let j = c.before.before in
     let k = j.before.before.before.before in
     let t = looked k in
     let pre = (start t).pre in
     let low = judged_low (length (before t).body) (desk t) (pages t) (freed_count (counts t)) (counts t) (later t) (end k)
-    j.before.judge-take.ensures j.if1.false in
+    j.before.judge_take-number.ensures j.if-number-ne0.false in
     omega (arith, (counts_low (length (before t).body) (counts t) low).held (desk t) pre.known, pre.low, pre.shape.most)
 
-put-counts-requires : tie.Need-put-counts-requires
-put-counts-requires c κs = search rules
+put_counts-requires : tie.Need-put_counts-requires
+put_counts-requires c κs = search rules
 
-run-at-mark-requires : tie.Need-run-at-mark-requires
-run-at-mark-requires c κs = search rules
+run_at_mark-requires : tie.Need-run_at_mark-requires
+run_at_mark-requires c κs = search rules
 
-same_length : tie.Need-same-length
-same_length c = search rules
+shape_of-body : tie.Need-shape_of-body
+shape_of-body c = search rules
 
-returns-3 : tie.Need-returns-3
+returns : tie.Need-returns
 unfolding run_found take_found
-returns-3 c =
+returns c =
     let j = c.before.before.before.before.before.before.before.before.before in
     let k = j.before.before.before.before in
     let t = looked k in
     let take = c.before.before in
     let done = take_judged (length (before t).body) (desk t) (pages t) (freed_count (counts t)) (counts t) (later t)
     (run_at_mark (pages t) (before t))
-    (ahead k) j.before.judge-take.ensures j.if1.false take.run-at-mark.ensures in
-    record { told = done.told; left = done.left; counts = take.before.before.before.before.put-counts.ensures ∙ done.counts }
+    (ahead k) j.before.judge_take-number.ensures j.if-number-ne0.false take.run_at_mark.ensures in
+    record { told = done.told; left = done.left; counts = take.before.before.before.before.put_counts.ensures ∙ done.counts }
 
-pub run-at-mark-for-spec : {M : Type 1} → statement M
-run-at-mark-for-spec =
+pub run_at_mark_for_spec : {M : Type 1} → statement M
+run_at_mark_for_spec =
     tie.close
     (tie.spec
-    peek-run-requires
-    enum-known-ahead
-    enum_told
+    peek_run-ahead-requires
+    enum_known-ahead
+    enum_told-1
     refusal-requires
-    returns
-    element-copy-out-freed
-    judge-take-requires
-    returns-2
-    add-held
-    mul-held
-    element-copy-out-held
-    add-put-counts
-    put-counts-requires
-    run-at-mark-requires
-    same_length
-    returns-3)
+    returns-in_default
+    bounds-counts-0
+    judge_take-number-requires
+    returns-then-number-ne0
+    overflow_add-held
+    offset_bounds-counts-desk
+    bounds-counts-desk
+    overflow_add-held-2
+    put_counts-requires
+    run_at_mark-requires
+    shape_of-body
+    returns)

@@ -11,7 +11,7 @@ use Rattle.book_space.proofs.desks.run_for.Statement.{statement}
 use Rattle.book_space.proofs.desks.run_for.Tie as tie
 
 -- the arguments, and what the search told
-module _ (t : tie.After-seek-run) where
+module _ (t : tie.After-seek_run-found) where
   abbrev start : tie.Start
   start = t.before.before.before.before.before.before
 
@@ -27,23 +27,23 @@ module _ (t : tie.After-seek-run) where
   abbrev before : Space
   before = space start.args.body.now start.args.mark.now start.args.free.now
 
-  told : searched pages (freed_count counts) before ≡ found_answer t.seek-run.result
-  told = sym t.seek-run.ensures
+  told : searched pages (freed_count counts) before ≡ found_answer t.seek_run-found.result
+  told = sym t.seek_run-found.ensures
 
-element-copy-out-head : tie.Need-element-copy-out-head
-element-copy-out-head c = search rules
+bounds-free-8 : tie.Need-bounds-free-8
+bounds-free-8 c = search rules
 
-element-copy-out-seek-run : tie.Need-element-copy-out-seek-run
-element-copy-out-seek-run c = search rules
+bounds-counts-0 : tie.Need-bounds-counts-0
+bounds-counts-0 c = search rules
 
-seek-run-requires : tie.Need-seek-run-requires
-seek-run-requires c κs = search rules
+seek_run-found-requires : tie.Need-seek_run-found-requires
+seek_run-found-requires c κs = search rules
 
-enum-known-found : tie.Need-enum-known-found
-enum-known-found c = search rules
+enum_known-found : tie.Need-enum_known-found
+enum_known-found c = search rules
 
-run-freed-for-requires : tie.Need-run-freed-for-requires
-run-freed-for-requires c κs =
+run_freed_for-requires : tie.Need-run_freed_for-requires
+run_freed_for-requires c κs =
     let a = c.before.before.before.before in
     let t = a.before.before in
     let pre = (start t).requires in
@@ -51,64 +51,64 @@ run-freed-for-requires c κs =
       shape = pre.shape;
       known = pre.known;
       some_pages = pre.some_pages;
-      found = told t ∙ ap found_answer a.found.given.1;
+      found = told t ∙ ap found_answer a.found-1.given.1;
     }
 
-enum_told : tie.Need-enum-told
-enum_told c = search rules
+enum_told-1 : tie.Need-enum_told-1
+enum_told-1 c = search rules
 
-run-at-mark-for-requires : tie.Need-run-at-mark-for-requires
-run-at-mark-for-requires c κs = search rules
+run_at_mark_for-requires : tie.Need-run_at_mark_for-requires
+run_at_mark_for-requires c κs = search rules
 
-enum-told-2 : tie.Need-enum-told-2
-enum-told-2 c = search rules
+enum_told-in-Strays : tie.Need-enum_told-in-Strays
+enum_told-in-Strays c = search rules
 
-same_length : tie.Need-same-length
-same_length c = search rules
+shape_of-body-in-At : tie.Need-shape_of-body-in-At
+shape_of-body-in-At c = search rules
 
-returns : tie.Need-returns
-returns c =
+returns-in-At : tie.Need-returns-in-At
+returns-in-At c =
     let r = c.before.before in
     let a = r.before.before.before.before.before in
     let t = a.before.before in
-    takes_for_same (run_searched (desk t) (before t) (counts t) (pages t) (told t ∙ ap found_answer a.found.given.1))
-    r.run-freed-for.ensures
+    takes_for_same (run_searched (desk t) (before t) (counts t) (pages t) (told t ∙ ap found_answer a.found-1.given.1))
+    r.run_freed_for.ensures
 
-same-length-2 : tie.Need-same-length-2
-same-length-2 c = search rules
+shape_of-body-in-Nothing : tie.Need-shape_of-body-in-Nothing
+shape_of-body-in-Nothing c = search rules
 
-returns-2 : tie.Need-returns-2
-returns-2 c =
+returns-in-Nothing : tie.Need-returns-in-Nothing
+returns-in-Nothing c =
     let r = c.before.before in
     let a = r.before.before.before.before.before in
     let t = a.before.before in
-    takes_for_same (run_searched (desk t) (before t) (counts t) (pages t) (told t ∙ ap found_answer a.enum_told.given.1))
-    r.run-at-mark-for.ensures
+    takes_for_same (run_searched (desk t) (before t) (counts t) (pages t) (told t ∙ ap found_answer a.enum_told-1.given.1))
+    r.run_at_mark_for.ensures
 
-same-length-3 : tie.Need-same-length-3
-same-length-3 c = search rules
+shape_of-body-in-Strays : tie.Need-shape_of-body-in-Strays
+shape_of-body-in-Strays c = search rules
 
-returns-3 : tie.Need-returns-3
-returns-3 c =
+returns-in-Strays : tie.Need-returns-in-Strays
+returns-in-Strays c =
     let t = c.before.before in
     refused_for (before t) (counts t)
-    (run_unsearched (desk t) (before t) (counts t) (pages t) (told t ∙ ap found_answer c.enum-told2.given.1))
+    (run_unsearched (desk t) (before t) (counts t) (pages t) (told t ∙ ap found_answer c.enum_told-in-Strays-1.given.1))
 
-pub run-for-spec : {M : Type 1} → statement M
-run-for-spec =
+pub run_for_spec : {M : Type 1} → statement M
+run_for_spec =
     tie.close
     (tie.spec
-    element-copy-out-head
-    element-copy-out-seek-run
-    seek-run-requires
-    enum-known-found
-    run-freed-for-requires
-    enum_told
-    run-at-mark-for-requires
-    enum-told-2
-    same_length
-    returns
-    same-length-2
-    returns-2
-    same-length-3
-    returns-3)
+    bounds-free-8
+    bounds-counts-0
+    seek_run-found-requires
+    enum_known-found
+    run_freed_for-requires
+    enum_told-1
+    run_at_mark_for-requires
+    enum_told-in-Strays
+    shape_of-body-in-At
+    returns-in-At
+    shape_of-body-in-Nothing
+    returns-in-Nothing
+    shape_of-body-in-Strays
+    returns-in-Strays)

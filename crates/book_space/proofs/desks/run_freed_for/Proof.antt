@@ -55,18 +55,18 @@ module _ (start : tie.Start) where
   below = run_below pages freed off before start.pre.some_pages start.pre.found
 
 -- where it was judged
-module _ (j : tie.After-judge-take) where
+module _ (j : tie.After-judge_take-number) where
   abbrev first : tie.Start
   first = j.before.before.before.before
 
-element-copy-out-freed : tie.Need-element-copy-out-freed
-element-copy-out-freed c = search rules
+bounds-counts-0 : tie.Need-bounds-counts-0
+bounds-counts-0 c = search rules
 
-sub-left : tie.Need-overflow-sub-left
-sub-left c = few c.before.before
+overflow_sub-left : tie.Need-overflow_sub-left
+overflow_sub-left c = few c.before.before
 
-judge-take-requires : tie.Need-judge-take-requires
-judge-take-requires c κs =
+judge_take-number-requires : tie.Need-judge_take-number-requires
+judge_take-number-requires c κs =
     let start = c.before.before.before in
     let pre = start.requires in
     record {
@@ -77,32 +77,32 @@ judge-take-requires c κs =
       within = pre.shape.within;
     }
 
-returns : tie.Need-returns
+returns-then-number-ne0 : tie.Need-returns-then-number-ne0
 unfolding run_found take_found
-returns c =
+returns-then-number-ne0 c =
     let j = c.before in
     let t = first j in
     refused_for (before t) (counts t)
     (judge_refused (length (before t).body) (desk t) (pages t) (freed t - pages t) (counts t) (later t) (takes t) (stays t)
-    j.judge-take.ensures c.if1.true)
+    j.judge_take-number.ensures c.if-number-ne0.true)
 
-add-held : tie.Need-overflow-add-held
-add-held c = search rules
+overflow_add-held : tie.Need-overflow_add-held
+overflow_add-held c = search rules
 
-mul-held : tie.Need-overflow-mul-held
-mul-held c = search rules
+offset_bounds-counts-desk : tie.Need-offset_bounds-counts-desk
+offset_bounds-counts-desk c = search rules
 
-element-copy-out-held : tie.Need-element-copy-out-held
-element-copy-out-held c = search rules
+bounds-counts-desk : tie.Need-bounds-counts-desk
+bounds-counts-desk c = search rules
 
-add-put-counts : tie.Need-overflow-add-put-counts
-add-put-counts c =
+overflow_add-held-2 : tie.Need-overflow_add-held-2
+overflow_add-held-2 c =
     let e = c.before.before in
     let j = e.before in
     let t = first j in
     let pre = t.pre in
     let low = judged_low (length (before t).body) (desk t) (pages t) (freed t - pages t) (counts t) (later t) (before t).mark
-    j.judge-take.ensures e.if1.false in
+    j.judge_take-number.ensures e.if-number-ne0.false in
     omega (
       arith,
       (counts_low (length (before t).body) (counts t) low).held (desk t) pre.known,
@@ -111,65 +111,65 @@ add-put-counts c =
       pre.shape.most,
     )
 
-put-counts-requires : tie.Need-put-counts-requires
-put-counts-requires c κs = search rules
+put_counts-requires : tie.Need-put_counts-requires
+put_counts-requires c κs = search rules
 
-element-copy-out-head : tie.Need-element-copy-out-head
-element-copy-out-head c = search rules
+bounds-free-8 : tie.Need-bounds-free-8
+bounds-free-8 c = search rules
 
 -- where it is taken out
-module _ (c : tie.After-unlink-arg) where
-  abbrev passed : tie.Else1
+module _ (c : tie.After-unlink-arg-1) where
+  abbrev passed : tie.Else-number-ne0
   passed = c.before.before.before.before.before
 
   abbrev begun : tie.Start
   begun = first passed.before
 
-mul-unlink : tie.Need-overflow-mul-unlink
-mul-unlink c = let t = begun c in omega (arith, below t, t.pre.shape.within, t.pre.shape.most)
+overflow_mul-pages : tie.Need-overflow_mul-pages
+overflow_mul-pages c = let t = begun c in omega (arith, below t, t.pre.shape.within, t.pre.shape.most)
 
-add-unlink : tie.Need-overflow-add-unlink
-add-unlink c = let t = begun c in omega (arith, below t, t.pre.shape.within, t.pre.shape.most)
+overflow_add-off : tie.Need-overflow_add-off
+overflow_add-off c = let t = begun c in omega (arith, below t, t.pre.shape.within, t.pre.shape.most)
 
-unlink-requires : tie.Need-unlink-requires
-unlink-requires c κs =
+unlink-top-requires : tie.Need-unlink-top-requires
+unlink-top-requires c κs =
     let t = begun c in
     (t.pre.shape.within, list_ends (pages t) (freed t) (off t) (before t) t.pre.some_pages t.pre.found)
 
-element-write-free : tie.Need-element-write-free
-element-write-free c = search rules
+bounds-free-8-2 : tie.Need-bounds-free-8-2
+bounds-free-8-2 c = search rules
 
-same_length : tie.Need-same-length
-same_length c = search rules
+shape_of-body : tie.Need-shape_of-body
+shape_of-body c = search rules
 
-returns-2 : tie.Need-returns-2
+returns : tie.Need-returns
 unfolding run_found take_found
-returns-2 c =
+returns c =
     let u = c.before.before in
     let e = passed u.before in
     let t = begun u.before in
-    let gone = unlinked_takes (pages t) (freed t) (off t) (before t) u.unlink.ensures.0 u.unlink.ensures.1 in
+    let gone = unlinked_takes (pages t) (freed t) (off t) (before t) u.unlink-top.ensures.0 u.unlink-top.ensures.1 in
     let done = take_judged (length (before t).body) (desk t) (pages t) (freed t - pages t) (counts t) (later t) (takes t) (stays t)
-    e.before.judge-take.ensures e.if1.left gone in
-    record { told = done.told; left = done.left; counts = u.before.before.before.put-counts.ensures ∙ done.counts }
+    e.before.judge_take-number.ensures e.if-number-ne0.left gone in
+    record { told = done.told; left = done.left; counts = u.before.before.before.put_counts.ensures ∙ done.counts }
 
-pub run-freed-for-spec : {M : Type 1} → statement M
-run-freed-for-spec =
+pub run_freed_for_spec : {M : Type 1} → statement M
+run_freed_for_spec =
     tie.close
     (tie.spec
-    element-copy-out-freed
-    sub-left
-    judge-take-requires
-    returns
-    add-held
-    mul-held
-    element-copy-out-held
-    add-put-counts
-    put-counts-requires
-    element-copy-out-head
-    mul-unlink
-    add-unlink
-    unlink-requires
-    element-write-free
-    same_length
-    returns-2)
+    bounds-counts-0
+    overflow_sub-left
+    judge_take-number-requires
+    returns-then-number-ne0
+    overflow_add-held
+    offset_bounds-counts-desk
+    bounds-counts-desk
+    overflow_add-held-2
+    put_counts-requires
+    bounds-free-8
+    overflow_mul-pages
+    overflow_add-off
+    unlink-top-requires
+    bounds-free-8-2
+    shape_of-body
+    returns)

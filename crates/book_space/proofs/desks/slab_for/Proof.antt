@@ -18,7 +18,7 @@ use Rattle.book_space.proofs.desks.slab_for.Statement.{statement}
 use Rattle.book_space.proofs.desks.slab_for.Tie as tie
 
 -- the arguments
-module _ (t : tie.After-peek-block) where
+module _ (t : tie.After-peek_block-ahead) where
   abbrev start : tie.Start
   start = t.before.before.before.before.before
 
@@ -35,45 +35,45 @@ module _ (t : tie.After-peek-block) where
   before = space start.args.body.now start.args.mark.now start.args.free.now
 
 -- the take would be accepted, and leave a mark
-module _ (k : tie.After-known-told) where
-  abbrev looked : tie.After-peek-block
+module _ (k : tie.In-Mark) where
+  abbrev looked : tie.After-peek_block-ahead
   looked = k.before.before.before
 
   abbrev end : ℕ
-  end = k.before.ahead.given.0.0
+  end = k.before.ahead-1.given.0.0
 
   ahead : answered mark_after (take_block (class looked) (before looked)) ≡ accepted end
-  ahead = sym looked.peek-block.ensures ∙ ap peek_answer k.before.ahead.given.1
+  ahead = sym looked.peek_block-ahead.ensures ∙ ap peek_answer k.before.ahead-1.given.1
 
-peek-block-requires : tie.Need-peek-block-requires
-peek-block-requires c κs = search rules
+peek_block-ahead-requires : tie.Need-peek_block-ahead-requires
+peek_block-ahead-requires c κs = search rules
 
-enum-known-ahead : tie.Need-enum-known-ahead
-enum-known-ahead c = search rules
+enum_known-ahead : tie.Need-enum_known-ahead
+enum_known-ahead c = search rules
 
-enum_told : tie.Need-enum-told
-enum_told c = search rules
+enum_told-1 : tie.Need-enum_told-1
+enum_told-1 c = search rules
 
 refusal-requires : tie.Need-refusal-requires
 refusal-requires c κs = search rules
 
-same_length : tie.Need-same-length
-same_length c = search rules
+shape_of-body-in_default : tie.Need-shape_of-body-in_default
+shape_of-body-in_default c = search rules
 
-returns : tie.Need-returns
+returns-in_default : tie.Need-returns-in_default
 unfolding slab_for
-returns c =
+returns-in_default c =
     let t = c.before.before.before in
-    let is = refused_as _ _ (ap peek_answer c.before.enum_told.given.1) c.refusal.ensures in
+    let is = refused_as _ _ (ap peek_answer c.before.enum_told-1.given.1) c.refusal.ensures in
     refused_for (before t) (counts t)
     (peek_refused (length (before t).body) (desk t) 0 (freed_count (counts t)) (counts t) (counts t) (take_block (class t) (before t))
-    (sym t.peek-block.ensures ∙ is))
+    (sym t.peek_block-ahead.ensures ∙ is))
 
-element-copy-out-judge-take : tie.Need-element-copy-out-judge-take
-element-copy-out-judge-take c = search rules
+bounds-counts-0 : tie.Need-bounds-counts-0
+bounds-counts-0 c = search rules
 
-judge-take-requires : tie.Need-judge-take-requires
-judge-take-requires c κs =
+judge_take-number-requires : tie.Need-judge_take-number-requires
+judge_take-number-requires c κs =
     let k = c.before in
     let pre = (start (looked k)).pre in
     record {
@@ -84,47 +84,47 @@ judge-take-requires c κs =
       within = block_within (class (looked k)) (before (looked k)) (omega (arith, pre.low)) pre.shape (ahead k);
     }
 
-same-length-2 : tie.Need-same-length-2
-same-length-2 c = search rules
+shape_of-body-then-number-ne0 : tie.Need-shape_of-body-then-number-ne0
+shape_of-body-then-number-ne0 c = search rules
 
-returns-2 : tie.Need-returns-2
+returns-then-number-ne0 : tie.Need-returns-then-number-ne0
 unfolding slab_for
-returns-2 c =
+returns-then-number-ne0 c =
     let k = c.before.before.before in
     let t = looked k in
     refused_for (before t) (counts t)
     (judge_refused (length (before t).body) (desk t) 0 (freed_count (counts t)) (counts t) (counts t) (take_block (class t) (before t))
-    (ahead k) c.before.judge-take.ensures c.if1.true)
+    (ahead k) c.before.judge_take-number.ensures c.if-number-ne0.true)
 
-take-block-requires : tie.Need-take-block-requires
-take-block-requires c κs = search rules
+take_block-requires : tie.Need-take_block-requires
+take_block-requires c κs = search rules
 
-same-length-3 : tie.Need-same-length-3
-same-length-3 c = search rules
+shape_of-body : tie.Need-shape_of-body
+shape_of-body c = search rules
 
-returns-3 : tie.Need-returns-3
+returns : tie.Need-returns
 unfolding slab_for
-returns-3 c =
+returns c =
     let judged = c.before.before.before.before.before.before in
     let k = judged.before.before.before in
     let t = looked k in
     take_judged (length (before t).body) (desk t) 0 (freed_count (counts t)) (counts t) (counts t) (take_block (class t) (before t))
-    (ahead k) judged.before.judge-take.ensures judged.if1.false c.before.before.take-block.ensures
+    (ahead k) judged.before.judge_take-number.ensures judged.if-number-ne0.false c.before.before.take_block.ensures
 
-pub slab-for-spec : {M : Type 1} → statement M
-slab-for-spec =
+pub slab_for_spec : {M : Type 1} → statement M
+slab_for_spec =
     tie.close
     (tie.spec
-    peek-block-requires
-    enum-known-ahead
-    enum_told
+    peek_block-ahead-requires
+    enum_known-ahead
+    enum_told-1
     refusal-requires
-    same_length
-    returns
-    element-copy-out-judge-take
-    judge-take-requires
-    same-length-2
-    returns-2
-    take-block-requires
-    same-length-3
-    returns-3)
+    shape_of-body-in_default
+    returns-in_default
+    bounds-counts-0
+    judge_take-number-requires
+    shape_of-body-then-number-ne0
+    returns-then-number-ne0
+    take_block-requires
+    shape_of-body
+    returns)

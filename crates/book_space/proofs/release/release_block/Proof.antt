@@ -6,19 +6,19 @@ use borrow.Author.Rules.{rules}
 use Rattle.book_space.proofs.release.release_block.Statement.{statement}
 use Rattle.book_space.proofs.release.release_block.Tie as tie
 
-push-lent-requires : tie.Need-push-lent-requires
-push-lent-requires c κs = search rules
+push_lent-requires : tie.Need-push_lent-requires
+push_lent-requires c κs = search rules
 
-same_length : tie.Need-same-length
-same_length c = search rules
+shape_of-body : tie.Need-shape_of-body
+shape_of-body c = search rules
 
 returns : tie.Need-returns
 returns c mark =
     let start = c.before.before.before.before.before.before in
     let a = start.args in
-    let push = c.before.before.push-lent in
+    let push = c.before.before.push_lent in
     release_pushed a.class a.off (space a.body.now mark a.free.now) (lists push.new.0 push.new.1.0) start.requires
     push.ensures.1
 
-pub release-block-spec : {M : Type 1} → statement M
-release-block-spec = tie.close (tie.spec push-lent-requires same_length returns)
+pub release_block_spec : {M : Type 1} → statement M
+release_block_spec = tie.close (tie.spec push_lent-requires shape_of-body returns)

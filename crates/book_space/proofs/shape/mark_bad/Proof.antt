@@ -4,17 +4,17 @@ use Rattle.book_space.specs.Space.{mark_bad}
 use Rattle.book_space.proofs.shape.mark_bad.Statement.{statement}
 use Rattle.book_space.proofs.shape.mark_bad.Tie as tie
 
+returns-then-mark-ne0 : tie.Need-returns-then-mark-ne0
+unfolding mark_bad
+returns-then-mark-ne0 c = simp (ne_eqb _ _ c.if-mark-ne0.true)
+
+returns-then-mark-lt-SH_PREFIX_PAGE : tie.Need-returns-then-mark-lt-SH_PREFIX_PAGE
+unfolding mark_bad
+returns-then-mark-lt-SH_PREFIX_PAGE c = simp (eq-eqb _ _ c.before.if-mark-ne0.false, lt-ltb _ _ c.if-mark-lt-SH_PREFIX_PAGE.true)
+
 returns : tie.Need-returns
 unfolding mark_bad
-returns c = simp (ne_eqb _ _ c.if1.true)
+returns c = simp (eq-eqb _ _ c.before.if-mark-ne0.false, le-ltb _ _ c.if-mark-lt-SH_PREFIX_PAGE.false)
 
-returns-2 : tie.Need-returns-2
-unfolding mark_bad
-returns-2 c = simp (eq-eqb _ _ c.before.if1.false, lt-ltb _ _ c.if2.true)
-
-returns-3 : tie.Need-returns-3
-unfolding mark_bad
-returns-3 c = simp (eq-eqb _ _ c.before.if1.false, le-ltb _ _ c.if2.false)
-
-pub mark-bad-spec : {M : Type 1} → statement M
-mark-bad-spec = tie.close (tie.spec returns returns-2 returns-3)
+pub mark_bad_spec : {M : Type 1} → statement M
+mark_bad_spec = tie.close (tie.spec returns-then-mark-ne0 returns-then-mark-lt-SH_PREFIX_PAGE returns)

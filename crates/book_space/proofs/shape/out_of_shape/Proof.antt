@@ -4,29 +4,29 @@ use Rattle.book_limits.specs.Limits.{out_of_shape}
 use Rattle.book_space.proofs.shape.out_of_shape.Statement.{statement}
 use Rattle.book_space.proofs.shape.out_of_shape.Tie as tie
 
+returns-then-size-ne0 : tie.Need-returns-then-size-ne0
+unfolding out_of_shape
+returns-then-size-ne0 c = simp (ne_eqb _ _ c.if-size-ne0.true)
+
+returns-then-size-lt-LEAST_BODY : tie.Need-returns-then-size-lt-LEAST_BODY
+unfolding out_of_shape
+returns-then-size-lt-LEAST_BODY c = simp (eq-eqb _ _ c.before.if-size-ne0.false, lt-ltb _ _ c.if-size-lt-LEAST_BODY.true)
+
+returns-then-size-gt-MOST_BODY : tie.Need-returns-then-size-gt-MOST_BODY
+unfolding out_of_shape
+returns-then-size-gt-MOST_BODY c = simp (eq-eqb _ _ c.before.before.if-size-ne0.false, le-ltb _ _ c.before.if-size-lt-LEAST_BODY.false, lt-ltb _ _ c.if-size-gt-MOST_BODY.true)
+
+returns-then-heads-eq0 : tie.Need-returns-then-heads-eq0
+unfolding out_of_shape
+returns-then-heads-eq0 c =
+    let t = c.before.before in
+    simp (eq-eqb _ _ t.before.if-size-ne0.false, le-ltb _ _ t.if-size-lt-LEAST_BODY.false, le-ltb _ _ c.before.if-size-gt-MOST_BODY.false, eq-eqb _ _ c.if-heads-eq0.true)
+
 returns : tie.Need-returns
 unfolding out_of_shape
-returns c = simp (ne_eqb _ _ c.if1.true)
-
-returns-2 : tie.Need-returns-2
-unfolding out_of_shape
-returns-2 c = simp (eq-eqb _ _ c.before.if1.false, lt-ltb _ _ c.if2.true)
-
-returns-3 : tie.Need-returns-3
-unfolding out_of_shape
-returns-3 c = simp (eq-eqb _ _ c.before.before.if1.false, le-ltb _ _ c.before.if2.false, lt-ltb _ _ c.if3.true)
-
-returns-4 : tie.Need-returns-4
-unfolding out_of_shape
-returns-4 c =
+returns c =
     let t = c.before.before in
-    simp (eq-eqb _ _ t.before.if1.false, le-ltb _ _ t.if2.false, le-ltb _ _ c.before.if3.false, eq-eqb _ _ c.if4.true)
+    simp (eq-eqb _ _ t.before.if-size-ne0.false, le-ltb _ _ t.if-size-lt-LEAST_BODY.false, le-ltb _ _ c.before.if-size-gt-MOST_BODY.false, ne_eqb _ _ c.if-heads-eq0.false)
 
-returns-5 : tie.Need-returns-5
-unfolding out_of_shape
-returns-5 c =
-    let t = c.before.before in
-    simp (eq-eqb _ _ t.before.if1.false, le-ltb _ _ t.if2.false, le-ltb _ _ c.before.if3.false, ne_eqb _ _ c.if4.false)
-
-pub out-of-shape-spec : {M : Type 1} → statement M
-out-of-shape-spec = tie.close (tie.spec returns returns-2 returns-3 returns-4 returns-5)
+pub out_of_shape_spec : {M : Type 1} → statement M
+out_of_shape_spec = tie.close (tie.spec returns-then-size-ne0 returns-then-size-lt-LEAST_BODY returns-then-size-gt-MOST_BODY returns-then-heads-eq0 returns)

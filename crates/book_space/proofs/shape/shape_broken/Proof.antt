@@ -5,19 +5,19 @@ use Rattle.book_space.specs.Space.{shape_broken}
 use Rattle.book_space.proofs.shape.shape_broken.Statement.{statement}
 use Rattle.book_space.proofs.shape.shape_broken.Tie as tie
 
-out-of-shape-requires : tie.Need-out-of-shape-requires
-out-of-shape-requires c κs = search rules
+out_of_shape-requires : tie.Need-out_of_shape-requires
+out_of_shape-requires c κs = search rules
+
+returns-then-out_of_shape : tie.Need-returns-then-out_of_shape
+unfolding shape_broken
+returns-then-out_of_shape c free = rw (sym c.before.out_of_shape.ensures ∙ c.if-out_of_shape.true)
+
+mark_bad-requires : tie.Need-mark_bad-requires
+mark_bad-requires c κs = search rules
 
 returns : tie.Need-returns
 unfolding shape_broken
-returns c free = rw (sym c.before.out-of-shape.ensures ∙ c.if1.true)
+returns c free = let t = c.before in rw (sym t.before.out_of_shape.ensures ∙ t.if-out_of_shape.false) c.mark_bad.ensures
 
-mark-bad-requires : tie.Need-mark-bad-requires
-mark-bad-requires c κs = search rules
-
-returns-2 : tie.Need-returns-2
-unfolding shape_broken
-returns-2 c free = let t = c.before in rw (sym t.before.out-of-shape.ensures ∙ t.if1.false) c.mark-bad.ensures
-
-pub shape-broken-spec : {M : Type 1} → statement M
-shape-broken-spec = tie.close (tie.spec out-of-shape-requires returns mark-bad-requires returns-2)
+pub shape_broken_spec : {M : Type 1} → statement M
+shape_broken_spec = tie.close (tie.spec out_of_shape-requires returns-then-out_of_shape mark_bad-requires returns)

@@ -7,17 +7,17 @@ use Rattle.book_limits.specs.Limits.{slabs_end, page_after}
 use Rattle.book_space.proofs.take.gap_end.Statement.{statement}
 use Rattle.book_space.proofs.take.gap_end.Tie as tie
 
-returns : tie.Need-returns
-returns c =
+returns-then-from-le-SLABS_END : tie.Need-returns-then-from-le-SLABS_END
+returns-then-from-le-SLABS_END c =
     let a = c.before.args in
     let low : page_after a.mark ≤ slabs_end = omega (arith, c.before.requires) in
     rw (le-leb (page_after a.mark) slabs_end low) c.before.requires
 
-returns-2 : tie.Need-returns-2
-returns-2 c =
+returns : tie.Need-returns
+returns c =
     let a = c.before.args in
     let high : slabs_end < page_after a.mark = omega (arith, c.before.requires) in
     rw (lt-leb (page_after a.mark) slabs_end high)
 
-pub gap-end-spec : {M : Type 1} → statement M
-gap-end-spec = tie.close (tie.spec returns returns-2)
+pub gap_end_spec : {M : Type 1} → statement M
+gap_end_spec = tie.close (tie.spec returns-then-from-le-SLABS_END returns)

@@ -12,57 +12,57 @@ module _ (t : tie.Start) where
   abbrev before : Space
   before = space t.args.body.now t.args.mark.now t.args.free.now
 
-sub-from : tie.Need-overflow-sub-from
-sub-from c = search rules
+overflow_sub-from : tie.Need-overflow_sub-from
+overflow_sub-from c = search rules
 
-add-from : tie.Need-overflow-add-from
-add-from c = search rules
+overflow_add-from : tie.Need-overflow_add-from
+overflow_add-from c = search rules
 
-mul-from : tie.Need-overflow-mul-from
-mul-from c = search rules
+overflow_mul-from : tie.Need-overflow_mul-from
+overflow_mul-from c = search rules
 
-mul-end : tie.Need-overflow-mul-end
-mul-end c = search rules
+overflow_mul-end : tie.Need-overflow_mul-end
+overflow_mul-end c = search rules
 
-add-end : tie.Need-overflow-add-end
-add-end c = search rules
+overflow_add-end : tie.Need-overflow_add-end
+overflow_add-end c = search rules
+
+returns-then-body-end : tie.Need-returns-then-body-end
+returns-then-body-end c =
+    let start = c.before.before.before in
+    let answer = run_no start.args.pages (before start) start.requires.shape c.if-body-end.true in
+    takes_no (before start) _ answer
+
+gap_end-to-requires : tie.Need-gap_end-to-requires
+gap_end-to-requires c κs = search rules
+
+carve_lent-requires : tie.Need-carve_lent-requires
+carve_lent-requires c κs = search rules
+
+shape_of-body : tie.Need-shape_of-body
+shape_of-body c = search rules
 
 returns : tie.Need-returns
 returns c =
-    let start = c.before.before.before in
-    let answer = run_no start.args.pages (before start) start.requires.shape c.if1.true in
-    takes_no (before start) _ answer
-
-gap-end-requires : tie.Need-gap-end-requires
-gap-end-requires c κs = search rules
-
-carve-lent-requires : tie.Need-carve-lent-requires
-carve-lent-requires c κs = search rules
-
-same_length : tie.Need-same-length
-same_length c = search rules
-
-returns-2 : tie.Need-returns-2
-returns-2 c =
     let t = c.before.before.before.before.before.before in
     let start = t.before.before.before in
-    let l = lists c.before.before.carve-lent.new.0 c.before.before.carve-lent.new.1.0 in
-    let gap = c.before.before.before.before.before.gap_end.ensures in
-    let carved = rw gap at c.before.before.carve-lent.ensures.1 in
-    let answer = run_yes start.args.pages (before start) start.requires.shape l carved t.if1.false in
+    let l = lists c.before.before.carve_lent.new.0 c.before.before.carve_lent.new.1.0 in
+    let gap = c.before.before.before.before.before.gap_end-to.ensures in
+    let carved = rw gap at c.before.before.carve_lent.ensures.1 in
+    let answer = run_yes start.args.pages (before start) start.requires.shape l carved t.if-body-end.false in
     takes_yes (before start) _ answer
 
-pub run-at-mark-spec : {M : Type 1} → statement M
-run-at-mark-spec =
+pub run_at_mark_spec : {M : Type 1} → statement M
+run_at_mark_spec =
     tie.close
     (tie.spec
-    sub-from
-    add-from
-    mul-from
-    mul-end
-    add-end
-    returns
-    gap-end-requires
-    carve-lent-requires
-    same_length
-    returns-2)
+    overflow_sub-from
+    overflow_add-from
+    overflow_mul-from
+    overflow_mul-end
+    overflow_add-end
+    returns-then-body-end
+    gap_end-to-requires
+    carve_lent-requires
+    shape_of-body
+    returns)

@@ -20,7 +20,7 @@ use Rattle.book_start.proofs.claiming.claim_chain.Statement.{statement}
 use Rattle.book_start.proofs.claiming.claim_chain.Tie as tie
 
 -- the chain was walked
-module _ (c : tie.After-end) where
+module _ (c : tie.In-Chain-2) where
   abbrev at : tie.Start
   at = c.before.before.before.before.before
 
@@ -30,15 +30,15 @@ module _ (c : tie.After-end) where
   abbrev end : ChainEndOf
   end =
       record {
-        first = c.end.given.0.0;
-        length = c.end.given.0.1.0;
-        pages = c.end.given.0.1.1.0;
-        padded = c.end.given.0.1.1.1.0;
+        first = c.end-1.given.0.0;
+        length = c.end-1.given.0.1.0;
+        pages = c.end-1.given.0.1.1.0;
+        padded = c.end-1.given.0.1.1.1.0;
       }
 
   walked : (x : Chain) × (chain_at s at.args.last ≡ accepted x) × (chain_end_of false x ≡ end)
   walked =
-      let got = was_accepted (chain_end_of false) _ (sym c.before.before.chain-end.ensures ∙ ap chain_answer c.end.given.1) in
+      let got = was_accepted (chain_end_of false) _ (sym c.before.before.chain_end-end.ensures ∙ ap chain_answer c.end-1.given.1) in
       (got.0, was_sound _ got.1, got.2)
 
   left : PagesLeft s end.first end.pages walked.0.offs
@@ -48,44 +48,44 @@ module _ (c : tie.After-end) where
       ≡ claim_all claims (page_blocks walked.0.offs)
   gives claims = content_fit claims (content_at s (Extent at.args.last)) (content_pages s at.args.last walked.0 walked.1)
 
-chain-end-requires : tie.Need-chain-end-requires
-chain-end-requires c κs = search rules
+chain_end-end-requires : tie.Need-chain_end-end-requires
+chain_end-end-requires c κs = search rules
 
-enum-known-end : tie.Need-enum-known-end
-enum-known-end c = search rules
+enum_known-end : tie.Need-enum_known-end
+enum_known-end c = search rules
 
-enum_told : tie.Need-enum-told
-enum_told c = search rules
+enum_told-1 : tie.Need-enum_told-1
+enum_told-1 c = search rules
 
-returns : tie.Need-returns
-returns c units lent claims m =
+returns-in_default : tie.Need-returns-in_default
+returns-in_default c units lent claims m =
     let a = c.before.before.before.before.before.args in
     let s = body_ground a.body.now a.mark in
-    let stop = was_refused (chain_end_of false) _ (sym c.before.before.chain-end.ensures ∙ ap chain_answer c.enum_told.given.1) in
+    let stop = was_refused (chain_end_of false) _ (sym c.before.before.chain_end-end.ensures ∙ ap chain_answer c.enum_told-1.given.1) in
     claims_unfit units a.mark lent _ claims _ m (content_unfit claims (content_at s (Extent a.last)) (content_no_pages s a.last
     (was_unsound _ stop).1))
 
-claim-pages-requires : tie.Need-claim-pages-requires
-claim-pages-requires c κs = let d = c.before.before in record { shown = (at d).requires.shown; offs = (walked d).0.offs; left = left d }
+claim_pages-requires : tie.Need-claim_pages-requires
+claim_pages-requires c κs = let d = c.before.before in record { shown = (at d).requires.shown; offs = (walked d).0.offs; left = left d }
 
-same_length : tie.Need-same-length
-same_length c = search rules
+shape_of-work : tie.Need-shape_of-work
+shape_of-work c = search rules
 
-returns-2 : tie.Need-returns-2
-returns-2 c units lent claims m =
-    let p = c.before.before.claim-pages in
+returns : tie.Need-returns
+returns c units lent claims m =
+    let p = c.before.before.claim_pages in
     let d = c.before.before.before.before.before in
     let r = p.ensures (walked d).0.offs (left d) units lent claims m in
     record { claims = r.claims; shows = r.shows; told = gives d claims ∙ r.told; took = r.took }
 
-pub claim-chain-spec : {M : Type 1} → statement M
-claim-chain-spec =
+pub claim_chain_spec : {M : Type 1} → statement M
+claim_chain_spec =
     tie.close
     (tie.spec
-    chain-end-requires
-    enum-known-end
-    enum_told
-    returns
-    claim-pages-requires
-    same_length
-    returns-2)
+    chain_end-end-requires
+    enum_known-end
+    enum_told-1
+    returns-in_default
+    claim_pages-requires
+    shape_of-work
+    returns)

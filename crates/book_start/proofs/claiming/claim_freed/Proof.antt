@@ -28,15 +28,15 @@ record ClaimingList (body : List ℕ) (mark : ℕ) (work₀ : List ℕ) (class h
       → FreedGo units lent claims (claim_freed (mark / 16) (space body mark free) class claims head) (space body mark free) class off left
       (units_of work) taken
 
-abbrev invariant_loop : tie.invariant_loop
+abbrev invariant_loop : tie.invariant-loop-off
 invariant_loop body mark work₀ class head size off₀ left₀ taken₀ work off left taken =
     ClaimingList body mark work₀ class head work off left taken
 
-abbrev decreases_loop : tie.decreases_loop
+abbrev decreases_loop : tie.decreases-loop-off
 decreases_loop body mark work₀ class head size off₀ left₀ taken₀ work off left taken = left
 
 -- a turn
-module _ (t : tie.In-loop invariant_loop decreases_loop) where
+module _ (t : tie.In-loop-off invariant_loop decreases_loop) where
   abbrev at : tie.Start invariant_loop decreases_loop
   at = t.before.before.before.before.before
 
@@ -44,175 +44,175 @@ module _ (t : tie.In-loop invariant_loop decreases_loop) where
   s free = space at.args.body.now at.args.mark free
 
   abbrev off : ℕ
-  off = t.before.loop.off
+  off = t.before.loop-off.off
 
   abbrev left : ℕ
-  left = t.before.loop.left
+  left = t.before.loop-off.left
 
   abbrev work : List ℕ
-  work = units_of t.before.loop.work
+  work = units_of t.before.loop-off.work
 
   abbrev taken : ℕ
-  taken = t.before.loop.taken
+  taken = t.before.loop-off.taken
 
   abbrev size : ℕ
-  size = t.before.before.block-units.result
+  size = t.before.before.block_units-size.result
 
   more : off ≡ 0 → ⊥
-  more z = t.loop-test.taken z
+  more z = t.loop-off-test.taken z
 
   long : at.args.mark ≤ 16 * length work
   long =
-      let e = t.before.loop.inv.same in
-      let now = units_long t.before.loop.work in
+      let e = t.before.loop-off.invariant.same in
+      let now = units_long t.before.loop-off.work in
       let then = units_long at.args.work.now in
       let p = shown_long at.args.mark (units_of at.args.work.now) at.pre.shown in omega arith
 
 -- a block that stands below the mark
-module _ (c : tie.Else2 invariant_loop decreases_loop) where
-  abbrev turn : tie.In-loop invariant_loop decreases_loop
+module _ (c : tie.Else-not-is_block invariant_loop decreases_loop) where
+  abbrev turn : tie.In-loop-off invariant_loop decreases_loop
   turn = c.before.before.before
 
   stands : is_block (at turn).args.class (off turn) (at turn).args.mark ≡ true
-  stands = sym c.before.is_Block.ensures ∙ not-false _ c.if2.false
+  stands = sym c.before.is_Block.ensures ∙ not-false _ c.if-not-is_block.false
 
   some : 0 < left turn
-  some = let n = c.before.before.if1.false in omega arith
+  some = let n = c.before.before.if-left-eq0.false in omega arith
 
-loop-holds : tie.Need-loop-init invariant_loop decreases_loop
-loop-holds c =
+loop-off-init : tie.Need-loop-off-init invariant_loop decreases_loop
+loop-off-init c =
     record {
       same = refl;
       goes = λ free units lent claims m. record { claims = claims; shows = m; gives = refl; took = omega arith };
     }
 
-block-units-requires : tie.Need-block-units-requires invariant_loop decreases_loop
-block-units-requires c κs = c.before.before.requires.class_to_8
+block_units-size-requires : tie.Need-block_units-size-requires invariant_loop decreases_loop
+block_units-size-requires c κs = c.before.before.requires.class_to_8
 
-same_length : tie.Need-same-length invariant_loop decreases_loop
-same_length c = search rules
+shape_of-work-then-left-eq0 : tie.Need-shape_of-work-then-left-eq0 invariant_loop decreases_loop
+shape_of-work-then-left-eq0 c = search rules
 
-returns : tie.Need-returns invariant_loop decreases_loop
-returns c free units lent claims m =
+returns-then-left-eq0 : tie.Need-returns-then-left-eq0 invariant_loop decreases_loop
+returns-then-left-eq0 c free units lent claims m =
     let t = c.before in
     list_long units lent claims _ (s t free) (at t).args.class (off t) (left t) (work t) (taken t)
-    (t.before.loop.invariant.goes free units lent claims m)
+    (t.before.loop-off.invariant.goes free units lent claims m)
     (more t) (omega arith)
 
-is-block-requires : tie.Need-is-block-requires invariant_loop decreases_loop
-is-block-requires c κs = search rules
+is_block-requires : tie.Need-is_block-requires invariant_loop decreases_loop
+is_block-requires c κs = search rules
 
-same-length-2 : tie.Need-same-length-2 invariant_loop decreases_loop
-same-length-2 c = search rules
+shape_of-work-then-not-is_block : tie.Need-shape_of-work-then-not-is_block invariant_loop decreases_loop
+shape_of-work-then-not-is_block c = search rules
 
-returns-2 : tie.Need-returns-2 invariant_loop decreases_loop
-returns-2 c free units lent claims m =
+returns-then-not-is_block : tie.Need-returns-then-not-is_block invariant_loop decreases_loop
+returns-then-not-is_block c free units lent claims m =
     let t = c.before.before.before in
     list_strays units lent claims _ (s t free) (at t).args.class (off t) (left t) (work t) (taken t)
-    (t.before.loop.invariant.goes free units lent claims m)
+    (t.before.loop-off.invariant.goes free units lent claims m)
     (more t)
-    (let n = c.before.before.if1.false in omega arith) (sym c.before.is_Block.ensures ∙ not-true _ c.if2.true)
+    (let n = c.before.before.if-left-eq0.false in omega arith) (sym c.before.is_Block.ensures ∙ not-true _ c.if-not-is_block.true)
 
-claim-block-requires : tie.Need-claim-block-requires invariant_loop decreases_loop
-claim-block-requires c κs =
+claim_block-requires : tie.Need-claim_block-requires invariant_loop decreases_loop
+claim_block-requires c κs =
     let t = turn c.before in
     record { mark = (at t).args.mark; stands = stands c.before; long = long t }
 
-same-length-3 : tie.Need-same-length-3 invariant_loop decreases_loop
-same-length-3 c = search rules
+shape_of-work-then-not-claim_block : tie.Need-shape_of-work-then-not-claim_block invariant_loop decreases_loop
+shape_of-work-then-not-claim_block c = search rules
 
-returns-3 : tie.Need-returns-3 invariant_loop decreases_loop
-returns-3 c free units lent claims m =
+returns-then-not-claim_block : tie.Need-returns-then-not-claim_block invariant_loop decreases_loop
+returns-then-not-claim_block c free units lent claims m =
     let d = c.before.before.before.before.before in
     let t = turn d in
-    let b = c.before.before.before.claim-block in
+    let b = c.before.before.before.claim_block in
     list_shared units lent claims _ (s t free) (at t).args.class (off t) (left t) (work t) (taken t)
-    (t.before.loop.inv.goes free units lent claims m)
+    (t.before.loop-off.invariant.goes free units lent claims m)
     (more t) (some d) (stands d) _
-    b.ensures.list (sym b.ensures.free ∙ not-true _ c.if3.true)
+    b.ensures.list (sym b.ensures.free ∙ not-true _ c.if-not-claim_block.true)
 
-get-u64-requires : tie.Need-get-u64-requires invariant_loop decreases_loop
-get-u64-requires c κs =
+get_u64-off-requires : tie.Need-get_u64-off-requires invariant_loop decreases_loop
+get_u64-off-requires c κs =
     let d = c.before.before.before.before.before in
     let t = turn d in
     link_inside (at t).args.body.now (at t).args.mark (at t).args.class (off t) (at t).pre.within (stands d)
 
-sub-left : tie.Need-overflow-sub-left invariant_loop decreases_loop
-sub-left c = let n = some c.before.before.before.before.before.before in omega arith
+overflow_sub-left : tie.Need-overflow_sub-left invariant_loop decreases_loop
+overflow_sub-left c = let n = some c.before.before.before.before.before.before in omega arith
 
 -- a block was claimed, and the next one is known
-module _ (c : tie.After-get-u64 invariant_loop decreases_loop) where
-  abbrev passed : tie.Else2 invariant_loop decreases_loop
+module _ (c : tie.After-get_u64-off invariant_loop decreases_loop) where
+  abbrev passed : tie.Else-not-is_block invariant_loop decreases_loop
   passed = c.before.before.before.before.before.before
 
-  abbrev here : tie.In-loop invariant_loop decreases_loop
+  abbrev here : tie.In-loop-off invariant_loop decreases_loop
   here = turn passed
 
   goes : (free : List ℕ) (units : ℕ) (lent : List ℕ) (claims : List Block)
       → Marked units (at here).args.mark lent claims (units_of (at here).args.work.now)
       → FreedGo units lent claims (claim_freed ((at here).args.mark / 16) (s here free) (at here).args.class claims (at here).args.head)
-      (s here free) (at here).args.class c.get-u64.result (left here - 1)
-      (units_of c.before.before.before.before.claim-block.new.0)
+      (s here free) (at here).args.class c.get_u64-off.result (left here - 1)
+      (units_of c.before.before.before.before.claim_block.new.0)
       (taken here + size here)
   goes free units lent claims m =
-      let b = c.before.before.before.before.claim-block in
+      let b = c.before.before.before.before.claim_block in
       list_turn units lent claims _ (s here free) (at here).args.class (off here) (left here) (work here) (taken here)
-      (here.before.loop.inv.goes free units lent claims m) (more here) (some passed) (stands passed) _ b.ensures.list
-      c.get-u64.result c.get-u64.ensures (sym b.ensures.free ∙ not-false _ c.before.if3.false) (size here)
-      here.before.before.block-units.ensures
+      (here.before.loop-off.invariant.goes free units lent claims m) (more here) (some passed) (stands passed) _ b.ensures.list
+      c.get_u64-off.result c.get_u64-off.ensures (sym b.ensures.free ∙ not-false _ c.before.if-not-claim_block.false) (size here)
+      here.before.before.block_units-size.ensures
 
-add-taken : tie.Need-overflow-add-taken invariant_loop decreases_loop
-add-taken c =
+overflow_add-taken : tie.Need-overflow_add-taken invariant_loop decreases_loop
+overflow_add-taken c =
     let t = here c in
     let w = (at t).pre.shown in
-    let few = list_few w.units w.lent w.claims _ (s t []) (at t).args.class c.get-u64.result (left t - 1) _
+    let few = list_few w.units w.lent w.claims _ (s t []) (at t).args.class c.get_u64-off.result (left t - 1) _
     (taken t + size t) (goes c [] w.units w.lent w.claims w.shows) in
     omega arith
 
-loop-less : tie.Need-loop-smaller invariant_loop decreases_loop
-loop-less c = let n = some c.before.before.before.before.before.before in omega arith
+loop-off-smaller : tie.Need-loop-off-smaller invariant_loop decreases_loop
+loop-off-smaller c = let n = some c.before.before.before.before.before.before in omega arith
 
-loop-again : tie.Need-loop-preserved invariant_loop decreases_loop
-loop-again c =
+loop-off-preserved : tie.Need-loop-off-preserved invariant_loop decreases_loop
+loop-off-preserved c =
     let d = c.before.before.before.before.before.before in
     let t = turn d in
-    let b = c.before.before.before.before.claim-block in
+    let b = c.before.before.before.before.claim_block in
     let class = (at t).args.class in
     record {
-      same = b.auto.0 ∙ t.before.loop.inv.same;
+      same = b.auto.0 ∙ t.before.loop-off.invariant.same;
       goes = goes c;
     }
 
-same-length-4 : tie.Need-same-length-4 invariant_loop decreases_loop
-same-length-4 c = search rules
+shape_of-work : tie.Need-shape_of-work invariant_loop decreases_loop
+shape_of-work c = search rules
 
-returns-4 : tie.Need-returns-4 invariant_loop decreases_loop
-returns-4 c free units lent claims m =
-    let l = c.before.loop in
+returns : tie.Need-returns invariant_loop decreases_loop
+returns c free units lent claims m =
+    let l = c.before.loop-off in
     let a = c.before.before.before.before.before.args in
     list_end units lent claims _ (space a.body.now a.mark free) a.class l.off l.left (units_of l.work) l.taken
     (l.invariant.goes free units lent claims m) (omega arith)
 
-pub claim-freed-spec : {M : Type 1} → statement M
-claim-freed-spec =
+pub claim_freed_spec : {M : Type 1} → statement M
+claim_freed_spec =
     tie.close
     (tie.spec
     invariant_loop
     decreases_loop
-    block-units-requires
-    loop-holds
-    same_length
-    returns
-    is-block-requires
-    same-length-2
-    returns-2
-    claim-block-requires
-    same-length-3
-    returns-3
-    get-u64-requires
-    sub-left
-    add-taken
-    loop-less
-    loop-again
-    same-length-4
-    returns-4)
+    block_units-size-requires
+    loop-off-init
+    shape_of-work-then-left-eq0
+    returns-then-left-eq0
+    is_block-requires
+    shape_of-work-then-not-is_block
+    returns-then-not-is_block
+    claim_block-requires
+    shape_of-work-then-not-claim_block
+    returns-then-not-claim_block
+    get_u64-off-requires
+    overflow_sub-left
+    overflow_add-taken
+    loop-off-smaller
+    loop-off-preserved
+    shape_of-work
+    returns)

@@ -10,52 +10,52 @@ use Rattle.book_start.proofs.LawsShown.{claims_unfit, word_unfit}
 use Rattle.book_start.proofs.claiming.claim_key.Statement.{statement}
 use Rattle.book_start.proofs.claiming.claim_key.Tie as tie
 
-unpack8-requires : tie.Need-unpack8-requires
-unpack8-requires c κs = search rules
+unpack8-head-requires : tie.Need-unpack8-head-requires
+unpack8-head-requires c κs = search rules
 
-enum-known-head : tie.Need-enum-known-head
-enum-known-head c = search rules
+enum_known-head : tie.Need-enum_known-head
+enum_known-head c = search rules
 
-enum_told : tie.Need-enum-told
-enum_told c = search rules
+enum_told-1 : tie.Need-enum_told-1
+enum_told-1 c = search rules
 
-returns : tie.Need-returns
-returns c units lent claims m =
+returns-in_default : tie.Need-returns-in_default
+returns-in_default c units lent claims m =
     let a = c.before.before.before.before.before.args in
     claims_unfit units a.mark lent _ claims _ m
     (word_unfit claims (content (body_ground a.body.now a.mark) a.word)
-    (content_nowhere (body_ground a.body.now a.mark) a.word (sym c.before.before.unpack8.ensures
-    ∙ ap unpack_answer c.enum_told.given.1)))
+    (content_nowhere (body_ground a.body.now a.mark) a.word (sym c.before.before.unpack8-head.ensures
+    ∙ ap unpack_answer c.enum_told-1.given.1)))
 
-claim-place-requires : tie.Need-claim-place-requires
-claim-place-requires c κs = search rules
+claim_place-requires : tie.Need-claim_place-requires
+claim_place-requires c κs = search rules
 
-same_length : tie.Need-same-length
-same_length c = search rules
+shape_of-work : tie.Need-shape_of-work
+shape_of-work c = search rules
 
-returns-2 : tie.Need-returns-2
-returns-2 c units lent claims m =
+returns : tie.Need-returns
+returns c units lent claims m =
     let g = c.before.before.before.before.before in
     let a = g.before.before.before.before.before.args in
-    let r = c.before.before.claim-place.ensures units lent claims m in
+    let r = c.before.before.claim_place.ensures units lent claims m in
     record {
       claims = r.claims;
       shows = r.shows;
       told = ap (λ (x : Answer Content). claim_content claims x)
-          (content_at_lem (body_ground a.body.now a.mark) a.word g.head.given.0.0 (sym g.before.before.unpack8.ensures
-          ∙ ap unpack_answer g.head.given.1))
+          (content_at_lem (body_ground a.body.now a.mark) a.word g.head-1.given.0.0 (sym g.before.before.unpack8-head.ensures
+          ∙ ap unpack_answer g.head-1.given.1))
           ∙ r.told;
       took = r.took;
     }
 
-pub claim-key-spec : {M : Type 1} → statement M
-claim-key-spec =
+pub claim_key_spec : {M : Type 1} → statement M
+claim_key_spec =
     tie.close
     (tie.spec
-    unpack8-requires
-    enum-known-head
-    enum_told
-    returns
-    claim-place-requires
-    same_length
-    returns-2)
+    unpack8-head-requires
+    enum_known-head
+    enum_told-1
+    returns-in_default
+    claim_place-requires
+    shape_of-work
+    returns)

@@ -33,14 +33,14 @@ record ClaimingPages (s : Ground) (work₀ : List ℕ) (first pages : ℕ) (work
       → Marked units s.mark lent claims (units_of work₀)
       → PagesGo units s.mark lent claims (claim_all claims (page_blocks whole)) s pages off left (units_of work)
 
-abbrev invariant_loop : tie.invariant_loop
+abbrev invariant_loop : tie.invariant-loop-left
 invariant_loop body mark work₀ first pages off₀ left₀ work off left = ClaimingPages (body_ground body mark) work₀ first pages work off left
 
-abbrev decreases_loop : tie.decreases_loop
+abbrev decreases_loop : tie.decreases-loop-left
 decreases_loop body mark work₀ first pages off₀ left₀ work off left = left
 
 -- a turn
-module _ (t : tie.In-loop invariant_loop decreases_loop) where
+module _ (t : tie.In-loop-left invariant_loop decreases_loop) where
   abbrev at : tie.Start invariant_loop decreases_loop
   at = t.before.before.before.before
 
@@ -48,26 +48,26 @@ module _ (t : tie.In-loop invariant_loop decreases_loop) where
   s = body_ground at.args.body.now at.args.mark
 
   abbrev off : ℕ
-  off = t.before.loop.off
+  off = t.before.loop-left.off
 
   abbrev work : List ℕ
-  work = units_of t.before.loop.work
+  work = units_of t.before.loop-left.work
 
-  more : 0 < t.before.loop.left
-  more = let h = t.loop-test.taken in omega arith
+  more : 0 < t.before.loop-left.left
+  more = let h = t.loop-left-test.taken in omega arith
 
-  turn : PageTurn s off t.before.loop.left t.before.loop.inv.offs
-  turn = page_turn s off t.before.loop.left t.before.loop.inv.offs more t.before.loop.inv.rest
+  turn : PageTurn s off t.before.loop-left.left t.before.loop-left.invariant.offs
+  turn = page_turn s off t.before.loop-left.left t.before.loop-left.invariant.offs more t.before.loop-left.invariant.rest
 
   long : at.args.mark ≤ 16 * length work
   long =
-      let e = t.before.loop.inv.same in
-      let now = units_long t.before.loop.work in
+      let e = t.before.loop-left.invariant.same in
+      let now = units_long t.before.loop-left.work in
       let then = units_long at.args.work.now in
       let p = shown_long at.args.mark (units_of at.args.work.now) at.pre.shown in omega arith
 
-loop-holds : tie.Need-loop-init invariant_loop decreases_loop
-loop-holds c =
+loop-left-init : tie.Need-loop-left-init invariant_loop decreases_loop
+loop-left-init c =
     record {
       same = refl;
       offs = c.before.before.requires.offs;
@@ -82,55 +82,55 @@ loop-holds c =
       };
     }
 
-claim-block-requires : tie.Need-claim-block-requires invariant_loop decreases_loop
-claim-block-requires c κs =
+claim_block-requires : tie.Need-claim_block-requires invariant_loop decreases_loop
+claim_block-requires c κs =
     let t = c.before in
     record { mark = (at t).args.mark; stands = (turn t).stands; long = long t }
 
-same_length : tie.Need-same-length invariant_loop decreases_loop
-same_length c = search rules
+shape_of-work-then-not-claim_block : tie.Need-shape_of-work-then-not-claim_block invariant_loop decreases_loop
+shape_of-work-then-not-claim_block c = search rules
 
-returns : tie.Need-returns invariant_loop decreases_loop
-returns c whole p units lent claims m =
+returns-then-not-claim_block : tie.Need-returns-then-not-claim_block invariant_loop decreases_loop
+returns-then-not-claim_block c whole p units lent claims m =
     let t = c.before.before.before.before.before in
-    let b = c.before.before.before.claim-block in
-    pages_shared units lent claims _ (s t) _ (off t) t.before.loop.left (work t)
-    (t.before.loop.invariant.goes whole p units lent claims m)
+    let b = c.before.before.before.claim_block in
+    pages_shared units lent claims _ (s t) _ (off t) t.before.loop-left.left (work t)
+    (t.before.loop-left.invariant.goes whole p units lent claims m)
     (more t) _
-    (sym b.ensures.free ∙ not-true _ c.if1.true) b.ensures.list
+    (sym b.ensures.free ∙ not-true _ c.if-not-claim_block.true) b.ensures.list
 
-next-page-requires : tie.Need-next-page-requires invariant_loop decreases_loop
-next-page-requires c κs =
+next_page-off-requires : tie.Need-next_page-off-requires invariant_loop decreases_loop
+next_page-off-requires c κs =
     let t = c.before.before.before.before.before in
     let e = (block_stands page_class (off t) (at t).args.mark (turn t).stands).ends in
-    let w = t.before.loop.invariant.rest.within in
+    let w = t.before.loop-left.invariant.rest.within in
     omega arith
 
-sub-left : tie.Need-overflow-sub-left invariant_loop decreases_loop
-sub-left c = omega arith
+overflow_sub-left : tie.Need-overflow_sub-left invariant_loop decreases_loop
+overflow_sub-left c = omega arith
 
-loop-less : tie.Need-loop-smaller invariant_loop decreases_loop
-loop-less c = omega arith
+loop-left-smaller : tie.Need-loop-left-smaller invariant_loop decreases_loop
+loop-left-smaller c = omega arith
 
-loop-again : tie.Need-loop-preserved invariant_loop decreases_loop
-loop-again c =
+loop-left-preserved : tie.Need-loop-left-preserved invariant_loop decreases_loop
+loop-left-preserved c =
     let t = c.before.before.before.before.before.before in
-    let b = c.before.before.before.before.claim-block in
-    let next = c.next-page.result in
-    let left = t.before.loop.left in
-    let free = sym b.ensures.free ∙ not-false _ c.before.if1.false in
+    let b = c.before.before.before.before.claim_block in
+    let next = c.next_page-off.result in
+    let left = t.before.loop-left.left in
+    let free = sym b.ensures.free ∙ not-false _ c.before.if-not-claim_block.false in
     record {
-      same = b.auto.0 ∙ t.before.loop.invariant.same;
+      same = b.auto.0 ∙ t.before.loop-left.invariant.same;
       offs = (turn t).behind;
-      rest = subst (λ (n : ℕ). PagesLeft (s t) n (left - 1) (turn t).behind) (sym c.next-page.ensures) (turn t).rest;
+      rest = subst (λ (n : ℕ). PagesLeft (s t) n (left - 1) (turn t).behind) (sym c.next_page-off.ensures) (turn t).rest;
       goes = λ whole p units lent claims m.
-          pages_turn units lent claims _ (s t) _ (off t) left (work t) (t.before.loop.invariant.goes whole p units lent claims m) (more t) _
-          next c.next-page.ensures free b.ensures.list;
+          pages_turn units lent claims _ (s t) _ (off t) left (work t) (t.before.loop-left.invariant.goes whole p units lent claims m) (more t) _
+          next c.next_page-off.ensures free b.ensures.list;
     }
 
-mul-t12 : tie.Need-overflow-mul-t12 invariant_loop decreases_loop
-mul-t12 c =
-    let l = c.before.loop in
+overflow_mul-result : tie.Need-overflow_mul-result invariant_loop decreases_loop
+overflow_mul-result c =
+    let l = c.before.loop-left in
     let t = c.before.before.before.before in
     let a = t.args in
     let w = t.requires.shown in
@@ -139,30 +139,30 @@ mul-t12 c =
     (l.invariant.goes t.requires.offs t.requires.left w.units w.lent w.claims w.shows) (omega arith) in
     omega arith
 
-same-length-2 : tie.Need-same-length-2 invariant_loop decreases_loop
-same-length-2 c = search rules
+shape_of-work : tie.Need-shape_of-work invariant_loop decreases_loop
+shape_of-work c = search rules
 
-returns-2 : tie.Need-returns-2 invariant_loop decreases_loop
-returns-2 c whole p units lent claims m =
-    let l = c.before.loop in
+returns : tie.Need-returns invariant_loop decreases_loop
+returns c whole p units lent claims m =
+    let l = c.before.loop-left in
     let a = c.before.before.before.before.args in
     pages_end_lem units lent claims _ (body_ground a.body.now a.mark) a.pages l.off l.left (units_of l.work)
     (l.invariant.goes whole p units lent claims m) (omega arith)
 
-pub claim-pages-spec : {M : Type 1} → statement M
-claim-pages-spec =
+pub claim_pages_spec : {M : Type 1} → statement M
+claim_pages_spec =
     tie.close
     (tie.spec
     invariant_loop
     decreases_loop
-    loop-holds
-    claim-block-requires
-    same_length
-    returns
-    next-page-requires
-    sub-left
-    loop-less
-    loop-again
-    mul-t12
-    same-length-2
-    returns-2)
+    loop-left-init
+    claim_block-requires
+    shape_of-work-then-not-claim_block
+    returns-then-not-claim_block
+    next_page-off-requires
+    overflow_sub-left
+    loop-left-smaller
+    loop-left-preserved
+    overflow_mul-result
+    shape_of-work
+    returns)

@@ -21,72 +21,72 @@ module _ (t : tie.Start) where
       → claim_content claims (soundly (content_at s t.args.place)) ≡ claim_content claims (soundly (content_at s v))
   at_place claims v e = ap (λ (x : ShHeadValue). claim_content claims (soundly (content_at s x))) e
 
-enum_told : tie.Need-enum-told
-enum_told c = search rules
+enum_told-1 : tie.Need-enum_told-1
+enum_told-1 c = search rules
 
-enum-told-2 : tie.Need-enum-told-2
-enum-told-2 c = search rules
+enum_told-in-Inline : tie.Need-enum_told-in-Inline
+enum_told-in-Inline c = search rules
 
-enum-known-place : tie.Need-enum-known-place
-enum-known-place c = search rules
+enum_known-place : tie.Need-enum_known-place
+enum_known-place c = search rules
 
-claim-slab-requires : tie.Need-claim-slab-requires
-claim-slab-requires c κs = search rules
+claim_slab-requires : tie.Need-claim_slab-requires
+claim_slab-requires c κs = search rules
 
-enum-known-place-2 : tie.Need-enum-known-place-2
-enum-known-place-2 c = search rules
+enum_known-place-in-Extent-1 : tie.Need-enum_known-place-in-Extent-1
+enum_known-place-in-Extent-1 c = search rules
 
-claim-chain-requires : tie.Need-claim-chain-requires
-claim-chain-requires c κs = search rules
+claim_chain-requires : tie.Need-claim_chain-requires
+claim_chain-requires c κs = search rules
 
-returns : tie.Need-returns
-returns c units lent claims m =
+returns-in-Empty : tie.Need-returns-in-Empty
+returns-in-Empty c units lent claims m =
     let t = c.before.before.before.before in
     claims_nothing units t.args.mark lent _ claims _ m
-    (at_place t claims Empty c.enum_told.given.1 ∙ content_fit claims (content_at (s t) Empty) (content_empty (s t)))
+    (at_place t claims Empty c.enum_told-1.given.1 ∙ content_fit claims (content_at (s t) Empty) (content_empty (s t)))
 
-returns-2 : tie.Need-returns-2
-returns-2 c units lent claims m =
+returns-in-Inline : tie.Need-returns-in-Inline
+returns-in-Inline c units lent claims m =
     let t = c.before.before.before.before in
-    let entry = c.enum-told2.given.0.0 in
-    let used = c.enum-told2.given.0.1.0 in
+    let entry = c.enum_told-in-Inline-1.given.0.0 in
+    let used = c.enum_told-in-Inline-1.given.0.1.0 in
     claims_nothing units t.args.mark lent _ claims _ m
-    (at_place t claims (Inline entry used) c.enum-told2.given.1
+    (at_place t claims (Inline entry used) c.enum_told-in-Inline-1.given.1
     ∙ content_fit claims (content_at (s t) (Inline entry used)) (content_inline (s t) entry used))
 
-same_length : tie.Need-same-length
-same_length c = search rules
+shape_of-work-in-Slab : tie.Need-shape_of-work-in-Slab
+shape_of-work-in-Slab c = search rules
 
-returns-3 : tie.Need-returns-3
-returns-3 c units lent claims m =
+returns-in-Slab : tie.Need-returns-in-Slab
+returns-in-Slab c units lent claims m =
     let p = c.before.before.before.before.before in
     let t = p.before.before.before.before in
-    let r = c.before.before.claim-slab.ensures units lent claims m in
-    record { claims = r.claims; shows = r.shows; told = at_place t claims _ p.place.given.1 ∙ r.told; took = r.took }
+    let r = c.before.before.claim_slab.ensures units lent claims m in
+    record { claims = r.claims; shows = r.shows; told = at_place t claims _ p.place-1.given.1 ∙ r.told; took = r.took }
 
-same-length-2 : tie.Need-same-length-2
-same-length-2 c = search rules
+shape_of-work-in-Extent : tie.Need-shape_of-work-in-Extent
+shape_of-work-in-Extent c = search rules
 
-returns-4 : tie.Need-returns-4
-returns-4 c units lent claims m =
+returns-in-Extent : tie.Need-returns-in-Extent
+returns-in-Extent c units lent claims m =
     let p = c.before.before.before.before.before in
     let t = p.before.before.before.before in
-    let r = c.before.before.claim-chain.ensures units lent claims m in
-    record { claims = r.claims; shows = r.shows; told = at_place t claims _ p.place2.given.1 ∙ r.told; took = r.took }
+    let r = c.before.before.claim_chain.ensures units lent claims m in
+    record { claims = r.claims; shows = r.shows; told = at_place t claims _ p.place-in-Extent-1.given.1 ∙ r.told; took = r.took }
 
-pub claim-place-spec : {M : Type 1} → statement M
-claim-place-spec =
+pub claim_place_spec : {M : Type 1} → statement M
+claim_place_spec =
     tie.close
     (tie.spec
-    enum_told
-    enum-told-2
-    enum-known-place
-    claim-slab-requires
-    enum-known-place-2
-    claim-chain-requires
-    returns
-    returns-2
-    same_length
-    returns-3
-    same-length-2
-    returns-4)
+    enum_told-1
+    enum_told-in-Inline
+    enum_known-place
+    claim_slab-requires
+    enum_known-place-in-Extent-1
+    claim_chain-requires
+    returns-in-Empty
+    returns-in-Inline
+    shape_of-work-in-Slab
+    returns-in-Slab
+    shape_of-work-in-Extent
+    returns-in-Extent)

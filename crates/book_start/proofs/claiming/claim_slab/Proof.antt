@@ -22,7 +22,7 @@ use Rattle.book_start.proofs.claiming.claim_slab.Statement.{statement}
 use Rattle.book_start.proofs.claiming.claim_slab.Tie as tie
 
 -- the slab was scanned
-module _ (c : tie.After-enum-told) where
+module _ (c : tie.In-Scanned) where
   abbrev at : tie.Start
   at = c.before.before.before.before.before
 
@@ -34,7 +34,7 @@ module _ (c : tie.After-enum-told) where
 
   scanned : (x : Scan) × (slab_scan s at.args.class at.args.used at.args.off ≡ accepted x)
   scanned =
-      let got = was_accepted (end_from 0) _ (sym c.before.before.slab-end.ensures ∙ ap scan_answer c.enum_told.given.1) in
+      let got = was_accepted (end_from 0) _ (sym c.before.before.slab_end-end.ensures ∙ ap scan_answer c.enum_told-1.given.1) in
       (got.0, was_sound _ got.1)
 
   sound : SoundSlab s at.args.class at.args.used at.args.off scanned.0
@@ -46,27 +46,27 @@ module _ (c : tie.After-enum-told) where
       content_fit claims (content_at s (Slab at.args.class at.args.used at.args.off))
       (content_slab s at.args.class at.args.used at.args.off scanned.0 scanned.1)
 
-slab-end-requires : tie.Need-slab-end-requires
-slab-end-requires c κs = search rules
+slab_end-end-requires : tie.Need-slab_end-end-requires
+slab_end-end-requires c κs = search rules
 
-enum_told : tie.Need-enum-told
-enum_told c = search rules
+enum_told-1 : tie.Need-enum_told-1
+enum_told-1 c = search rules
 
-enum-told-2 : tie.Need-enum-told-2
-enum-told-2 c = search rules
+enum_told-in_default : tie.Need-enum_told-in_default
+enum_told-in_default c = search rules
 
-returns : tie.Need-returns
-returns c units lent claims m =
+returns-in_default : tie.Need-returns-in_default
+returns-in_default c units lent claims m =
     let t = c.before.before.before.before.before in
     let a = t.args in
     let s = body_ground a.body.now a.mark in
-    let stop = was_refused (end_from 0) _ (sym c.before.before.slab-end.ensures ∙ ap scan_answer c.enum-told2.given.1) in
+    let stop = was_refused (end_from 0) _ (sym c.before.before.slab_end-end.ensures ∙ ap scan_answer c.enum_told-in_default-1.given.1) in
     claims_unfit units a.mark lent _ claims _ m
     (content_unfit claims (content_at s (Slab a.class a.used a.off)) (content_no_slab s a.class a.used a.off
     (was_unsound _ stop).1))
 
-claim-block-requires : tie.Need-claim-block-requires
-claim-block-requires c κs =
+claim_block-requires : tie.Need-claim_block-requires
+claim_block-requires c κs =
     let d = c.before in
     let k = (sound d).class_to_7 in
     record {
@@ -76,42 +76,42 @@ claim-block-requires c κs =
           (at d).requires.shown;
     }
 
-same_length : tie.Need-same-length
-same_length c = search rules
+shape_of-work-then-not-claim_block : tie.Need-shape_of-work-then-not-claim_block
+shape_of-work-then-not-claim_block c = search rules
 
-returns-2 : tie.Need-returns-2
-returns-2 c units lent claims m =
+returns-then-not-claim_block : tie.Need-returns-then-not-claim_block
+returns-then-not-claim_block c units lent claims m =
     let d = c.before.before.before.before.before in
-    let b = c.before.before.before.claim-block in
+    let b = c.before.before.before.claim_block in
     one_shared units (at d).args.mark lent _ claims (units_of (at d).args.work.now) m (slab d) (sound d).stands (gives d claims) _
     b.ensures.list
-    (sym b.ensures.free ∙ not-true _ c.if1.true)
+    (sym b.ensures.free ∙ not-true _ c.if-not-claim_block.true)
 
-block-units-requires : tie.Need-block-units-requires
-block-units-requires c κs = let k = (sound c.before.before.before.before.before).class_to_7 in omega arith
+block_units-requires : tie.Need-block_units-requires
+block_units-requires c κs = let k = (sound c.before.before.before.before.before).class_to_7 in omega arith
 
-same-length-2 : tie.Need-same-length-2
-same-length-2 c = search rules
+shape_of-work : tie.Need-shape_of-work
+shape_of-work c = search rules
 
-returns-3 : tie.Need-returns-3
-returns-3 c units lent claims m =
+returns : tie.Need-returns
+returns c units lent claims m =
     let d = c.before.before.before.before.before.before in
-    let b = c.before.before.before.before.claim-block in
+    let b = c.before.before.before.before.claim_block in
     one_claimed units (at d).args.mark lent _ claims (units_of (at d).args.work.now) m (slab d) (sound d).stands (gives d claims) _
-    b.ensures.list c.block-units.result c.block-units.ensures
-    (sym b.ensures.free ∙ not-false _ c.before.if1.false)
+    b.ensures.list c.block_units.result c.block_units.ensures
+    (sym b.ensures.free ∙ not-false _ c.before.if-not-claim_block.false)
 
-pub claim-slab-spec : {M : Type 1} → statement M
-claim-slab-spec =
+pub claim_slab_spec : {M : Type 1} → statement M
+claim_slab_spec =
     tie.close
     (tie.spec
-    slab-end-requires
-    enum_told
-    enum-told-2
-    returns
-    claim-block-requires
-    same_length
-    returns-2
-    block-units-requires
-    same-length-2
-    returns-3)
+    slab_end-end-requires
+    enum_told-1
+    enum_told-in_default
+    returns-in_default
+    claim_block-requires
+    shape_of-work-then-not-claim_block
+    returns-then-not-claim_block
+    block_units-requires
+    shape_of-work
+    returns)

@@ -11,29 +11,29 @@ use Rattle.book_start.proofs.LawsTally.{pages_chain, pages_unsound}
 use Rattle.book_start.proofs.counts.chain_pages.Statement.{statement}
 use Rattle.book_start.proofs.counts.chain_pages.Tie as tie
 
-chain-end-requires : tie.Need-chain-end-requires
-chain-end-requires c κs = search rules
+chain_end-end-requires : tie.Need-chain_end-end-requires
+chain_end-end-requires c κs = search rules
 
-enum-known-end : tie.Need-enum-known-end
-enum-known-end c = search rules
+enum_known-end : tie.Need-enum_known-end
+enum_known-end c = search rules
 
-enum_told : tie.Need-enum-told
-enum_told c = search rules
+enum_told-1 : tie.Need-enum_told-1
+enum_told-1 c = search rules
+
+returns-in_default : tie.Need-returns-in_default
+returns-in_default c =
+    let a = c.before.before.before.before.args in
+    let stop = was_refused (chain_end_of false) _ (sym c.before.before.chain_end-end.ensures ∙ ap chain_answer c.enum_told-1.given.1) in
+    pages_unsound (body_ground a.body.now a.mark) a.last _ (was_unsound _ stop).1
 
 returns : tie.Need-returns
 returns c =
-    let a = c.before.before.before.before.args in
-    let stop = was_refused (chain_end_of false) _ (sym c.before.before.chain-end.ensures ∙ ap chain_answer c.enum_told.given.1) in
-    pages_unsound (body_ground a.body.now a.mark) a.last _ (was_unsound _ stop).1
-
-returns-2 : tie.Need-returns-2
-returns-2 c =
     let d = c.before in
     let a = d.before.before.before.before.args in
-    let got = was_accepted (chain_end_of false) _ (sym d.before.before.chain-end.ensures ∙ ap chain_answer d.end.given.1) in
+    let got = was_accepted (chain_end_of false) _ (sym d.before.before.chain_end-end.ensures ∙ ap chain_answer d.end-1.given.1) in
     sym (ap (λ (e : ChainEndOf). e.pages) got.2)
     ∙ pages_chain (body_ground a.body.now a.mark) a.last got.0 (was_sound _ got.1)
 
-pub chain-pages-spec : {M : Type 1} → statement M
-chain-pages-spec =
-    tie.close (tie.spec chain-end-requires enum-known-end enum_told returns returns-2)
+pub chain_pages_spec : {M : Type 1} → statement M
+chain_pages_spec =
+    tie.close (tie.spec chain_end-end-requires enum_known-end enum_told-1 returns-in_default returns)

@@ -41,14 +41,14 @@ module _ (t : tie.Start) where
   small d h = let s = shape.0.most in let l = low.held d h in omega arith
 
 -- what the counts tell
-module _ (s : tie.After-sum-of-held) where
+module _ (s : tie.After-sum_of_held) where
   abbrev at : tie.Start
   at = s.before.before.before.before.before.before
 
-  told : s.sum-of-held.result + s.before.to-be-had.result ≡ total (held_in (book at).counts) + to_be_had_in (book at)
-  told = let h = s.sum-of-held.ensures in let b = s.before.to-be-had.ensures in omega arith
+  told : s.sum_of_held.result + s.before.to_be_had-had.result ≡ total (held_in (book at).counts) + to_be_had_in (book at)
+  told = let h = s.sum_of_held.ensures in let b = s.before.to_be_had-had.ensures in omega arith
 
-  few : s.sum-of-held.result + s.before.to-be-had.result ≤ 2 ^ 40
+  few : s.sum_of_held.result + s.before.to_be_had-had.result ≤ 2 ^ 40
   few =
       let e = told in
       let t = total_small (book at).counts (small at) in
@@ -56,39 +56,39 @@ module _ (s : tie.After-sum-of-held) where
       let m = (shape at).0.most in
       omega arith
 
-element-copy-out-freed : tie.Need-element-copy-out-freed
-element-copy-out-freed c = search rules
+bounds-counts-0 : tie.Need-bounds-counts-0
+bounds-counts-0 c = search rules
 
-to-be-had-requires : tie.Need-to-be-had-requires
-to-be-had-requires c κs =
+to_be_had-had-requires : tie.Need-to_be_had-had-requires
+to_be_had-had-requires c κs =
     let t = c.before.before.before.before in
     let s = (shape t).0 in
     let m = s.most in
     let f = (low t).freed in
     (omega arith, s.within, m)
 
-sum-of-held-requires : tie.Need-sum-of-held-requires
-sum-of-held-requires c κs = small c.before.before.before.before.before
+sum_of_held-requires : tie.Need-sum_of_held-requires
+sum_of_held-requires c κs = small c.before.before.before.before.before
 
-add-if1 : tie.Need-overflow-add-if1
-add-if1 c = omega (arith, few c)
+overflow_add-sum_of_held : tie.Need-overflow_add-sum_of_held
+overflow_add-sum_of_held c = omega (arith, few c)
 
-add-if1-2 : tie.Need-overflow-add-if1-2
-add-if1-2 c = omega (arith, few c)
+overflow_add-sum_of_held-2 : tie.Need-overflow_add-sum_of_held-2
+overflow_add-sum_of_held-2 c = omega (arith, few c)
 
-returns : tie.Need-returns
-returns c =
+returns-then-size-sum_of_held : tie.Need-returns-then-size-sum_of_held
+returns-then-size-sum_of_held c =
     let s = c.before in
     let t = at s in
     let e = told s in
-    let h = c.if1.true in
+    let h = c.if-size-sum_of_held.true in
     ap accepted (sym (counts_exceed_lem (ds t) (book t) t.args.lost (omega arith)))
 
-element-copy-out-freed-pages : tie.Need-element-copy-out-freed-pages
-element-copy-out-freed-pages c = search rules
+bounds-free-8 : tie.Need-bounds-free-8
+bounds-free-8 c = search rules
 
-freed-pages-requires : tie.Need-freed-pages-requires
-freed-pages-requires c κs =
+freed_pages-requires : tie.Need-freed_pages-requires
+freed_pages-requires c κs =
     let t = at c.before.before in
     record {
       within = (shape t).0.within;
@@ -96,57 +96,57 @@ freed-pages-requires c κs =
       stand = t.pre.blocks.stand page_class (omega arith);
     }
 
-returns-2 : tie.Need-returns-2
-returns-2 c =
+returns-then-freed-freed_pages : tie.Need-returns-then-freed-freed_pages
+returns-then-freed-freed_pages c =
     let s = c.before.before.before.before in
     let t = at s in
     let e = told s in
-    let h = c.before.before.before.if1.false in
+    let h = c.before.before.before.if-size-sum_of_held.false in
     ap accepted
     (sym (counts_freed (ds t) (book t) t.args.lost (omega arith)
-    (λ f. let e = c.before.freed_pages.ensures in let n = c.if2.true in omega arith)))
+    (λ f. let e = c.before.freed_pages.ensures in let n = c.if-freed-freed_pages.true in omega arith)))
 
-tally-pages-requires : tie.Need-tally-pages-requires
-tally-pages-requires c κs =
+tally_pages-tally-requires : tie.Need-tally_pages-tally-requires
+tally_pages-tally-requires c κs =
     let t = at c.before.before.before.before in
     record { within = (shape t).0.within; most = (shape t).0.most; few = (shape t).1; named = t.pre.named }
 
-judge-desks-requires : tie.Need-judge-desks-requires
-judge-desks-requires c κs =
+judge_desks-requires : tie.Need-judge_desks-requires
+judge_desks-requires c κs =
     let t = at c.before.before.before.before.before in
     let m = (shape t).0.most in
     λ d h. let r = (low t).reserve d h in omega arith
 
-returns-3 : tie.Need-returns-3
-returns-3 c =
+returns : tie.Need-returns
+returns c =
     let y = c.before in
     let s = y.before.before.before.before.before in
     let t = at s in
     let a = t.args in
     let e = told s in
-    let h = y.before.before.before.before.if1.false in
-    c.judge-desks.ensures (ds t) a.body.now a.heads.now a.mark a.free.now
-    (y.tally-pages.ensures a.free.now a.counts.now)
+    let h = y.before.before.before.before.if-size-sum_of_held.false in
+    c.judge_desks.ensures (ds t) a.body.now a.heads.now a.mark a.free.now
+    (y.tally_pages-tally.ensures a.free.now a.counts.now)
     ∙ ap (λ (n : ℕ). accepted (judge_desks (ds t) (book t) 0 desks
     (cond (ltb n (lacks (limits_in (book t).counts) (held_in (book t).counts))) lacks_open (good a.lost))))
-    s.before.to-be-had.ensures
+    s.before.to_be_had-had.ensures
     ∙ ap accepted
     (sym (counts_desks (ds t) (book t) a.lost (omega arith)
-    (let e = y.before.before.freed_pages.ensures in let n = y.before.if2.false in omega arith)))
+    (let e = y.before.before.freed_pages.ensures in let n = y.before.if-freed-freed_pages.false in omega arith)))
 
-pub judge-counts-spec : {M : Type 1} → statement M
-judge-counts-spec =
+pub judge_counts_spec : {M : Type 1} → statement M
+judge_counts_spec =
     tie.close
     (tie.spec
-    element-copy-out-freed
-    to-be-had-requires
-    sum-of-held-requires
-    add-if1
-    add-if1-2
-    returns
-    element-copy-out-freed-pages
-    freed-pages-requires
-    returns-2
-    tally-pages-requires
-    judge-desks-requires
-    returns-3)
+    bounds-counts-0
+    to_be_had-had-requires
+    sum_of_held-requires
+    overflow_add-sum_of_held
+    overflow_add-sum_of_held-2
+    returns-then-size-sum_of_held
+    bounds-free-8
+    freed_pages-requires
+    returns-then-freed-freed_pages
+    tally_pages-tally-requires
+    judge_desks-requires
+    returns)

@@ -29,19 +29,19 @@ record JudgingDesks (counts : List ℕ) (had lost : ℕ) (tally : List ℕ) (d :
       → from ds (book_of body heads mark free counts) (behind counts had lost) d
       ≡ from ds (book_of body heads mark free counts) (behind counts had lost) 0
 
-abbrev invariant_loop : tie.invariant_loop
+abbrev invariant_loop : tie.invariant-loop-d
 invariant_loop counts had lost tally d₀ d = JudgingDesks counts had lost tally d
 
-abbrev decreases_loop : tie.decreases_loop
+abbrev decreases_loop : tie.decreases-loop-d
 decreases_loop counts had lost tally d₀ d = 16 - d
 
 -- a desk
-module _ (t : tie.In-loop invariant_loop decreases_loop) where
+module _ (t : tie.In-loop-d invariant_loop decreases_loop) where
   abbrev at : tie.Start invariant_loop decreases_loop
   at = t.before.before
 
   abbrev d : ℕ
-  d = t.before.loop.d
+  d = t.before.loop-d.d
 
   abbrev after : Verdict
   after = behind at.args.counts.now at.args.had at.args.lost
@@ -53,22 +53,22 @@ module _ (t : tie.In-loop invariant_loop decreases_loop) where
 
     module _ (tallied : Tallied ds book at.args.t2) where
       all : from ds book after d ≡ from ds book after 0
-      all = t.before.loop.inv.left ds body heads mark free tallied
+      all = t.before.loop-d.invariant.left ds body heads mark free tallied
 
       known : desk_count d at.args.t2 ≡ pages_of_desk ds book d
-      known = tallied d t.loop-test.taken
+      known = tallied d t.loop-d-test.taken
 
 -- its count is true
-module _ (e : tie.Else1 invariant_loop decreases_loop) where
-  abbrev turn : tie.In-loop invariant_loop decreases_loop
+module _ (e : tie.Else-held-tally invariant_loop decreases_loop) where
+  abbrev turn : tie.In-loop-d invariant_loop decreases_loop
   turn = e.before.before.before
 
   exact : (ds body heads : List ℕ) (mark : ℕ) (free : List ℕ) → Tallied ds (book turn ds body heads mark free) (at turn).args.t2
       → held_count (d turn) (at turn).args.counts.now ≡ pages_of_desk ds (book turn ds body heads mark free) (d turn)
-  exact ds body heads mark free tallied = e.if1.left ∙ known turn ds body heads mark free tallied
+  exact ds body heads mark free tallied = e.if-held-tally.left ∙ known turn ds body heads mark free tallied
 
 -- the desks are judged
-module _ (f : tie.After-sum-of-lacks invariant_loop decreases_loop) where
+module _ (f : tie.After-sum_of_lacks invariant_loop decreases_loop) where
   abbrev begun : tie.Start invariant_loop decreases_loop
   begun = f.before.before.before
 
@@ -79,135 +79,135 @@ module _ (f : tie.After-sum-of-lacks invariant_loop decreases_loop) where
       → Tallied ds (book_of body heads mark free begun.args.counts.now) begun.args.t2
       → last ≡ from ds (book_of body heads mark free begun.args.counts.now) last 0
   ends ds body heads mark free w =
-      let l = f.before.before.loop in
+      let l = f.before.before.loop-d in
       let e : l.d ≡ desks = let n = l.inv.to_end in omega arith in
       sym (desks_end ds (book_of body heads mark free begun.args.counts.now) last l.d e) ∙ l.inv.left ds body heads mark free w
 
-loop-holds : tie.Need-loop-init invariant_loop decreases_loop
-loop-holds c = record { to_end = omega arith; left = λ ds body heads mark free t. refl }
+loop-d-init : tie.Need-loop-d-init invariant_loop decreases_loop
+loop-d-init c = record { to_end = omega arith; left = λ ds body heads mark free t. refl }
 
-add-held : tie.Need-overflow-add-held invariant_loop decreases_loop
-add-held c = search rules
+overflow_add-held : tie.Need-overflow_add-held invariant_loop decreases_loop
+overflow_add-held c = search rules
 
-mul-held : tie.Need-overflow-mul-held invariant_loop decreases_loop
-mul-held c = search rules
+offset_bounds-counts-d : tie.Need-offset_bounds-counts-d invariant_loop decreases_loop
+offset_bounds-counts-d c = search rules
 
-element-copy-out-held : tie.Need-element-copy-out-held invariant_loop decreases_loop
-element-copy-out-held c = search rules
+bounds-counts-d : tie.Need-bounds-counts-d invariant_loop decreases_loop
+bounds-counts-d c = search rules
 
-add-ceiling : tie.Need-overflow-add-ceiling invariant_loop decreases_loop
-add-ceiling c = search rules
+overflow_add-ceiling : tie.Need-overflow_add-ceiling invariant_loop decreases_loop
+overflow_add-ceiling c = search rules
 
-mul-ceiling : tie.Need-overflow-mul-ceiling invariant_loop decreases_loop
-mul-ceiling c = search rules
+offset_bounds-counts-d-in-loop-d : tie.Need-offset_bounds-counts-d-in-loop-d invariant_loop decreases_loop
+offset_bounds-counts-d-in-loop-d c = search rules
 
-element-copy-out-ceiling : tie.Need-element-copy-out-ceiling invariant_loop decreases_loop
-element-copy-out-ceiling c = search rules
+bounds-counts-d-in-loop-d : tie.Need-bounds-counts-d-in-loop-d invariant_loop decreases_loop
+bounds-counts-d-in-loop-d c = search rules
 
-mul-if1 : tie.Need-overflow-mul-if1 invariant_loop decreases_loop
-mul-if1 c = search rules
+offset_bounds-tally-d : tie.Need-offset_bounds-tally-d invariant_loop decreases_loop
+offset_bounds-tally-d c = search rules
 
-array-read-if1 : tie.Need-array-read-if1 invariant_loop decreases_loop
-array-read-if1 c = search rules
+bounds-tally-d : tie.Need-bounds-tally-d invariant_loop decreases_loop
+bounds-tally-d c = search rules
 
-returns : tie.Need-returns invariant_loop decreases_loop
-returns c ds body heads mark free w =
+returns-then-held-tally : tie.Need-returns-then-held-tally invariant_loop decreases_loop
+returns-then-held-tally c ds body heads mark free w =
     let t = c.before.before.before in
     ap accepted
-    (sym (desk_differs ds (book t ds body heads mark free) (after t) (d t) t.loop-test.true
-    (λ e. c.if1.true (e ∙ sym (known t ds body heads mark free w))))
+    (sym (desk_differs ds (book t ds body heads mark free) (after t) (d t) t.loop-d-test.true
+    (λ e. c.if-held-tally.true (e ∙ sym (known t ds body heads mark free w))))
     ∙ all t ds body heads mark free w)
 
-returns-2 : tie.Need-returns-2 invariant_loop decreases_loop
-returns-2 c ds body heads mark free w =
+returns-then-ceiling-held : tie.Need-returns-then-ceiling-held invariant_loop decreases_loop
+returns-then-ceiling-held c ds body heads mark free w =
     let e = c.before in
     let t = turn e in
     ap accepted
-    (sym (desk_high ds (book t ds body heads mark free) (after t) (d t) t.loop-test.taken
-    (exact e ds body heads mark free w) c.if2.true)
+    (sym (desk_high ds (book t ds body heads mark free) (after t) (d t) t.loop-d-test.taken
+    (exact e ds body heads mark free w) c.if-ceiling-held.true)
     ∙ all t ds body heads mark free w)
 
-add-if3 : tie.Need-overflow-add-if3 invariant_loop decreases_loop
-add-if3 c = search rules
+overflow_add-d : tie.Need-overflow_add-d invariant_loop decreases_loop
+overflow_add-d c = search rules
 
-mul-if3 : tie.Need-overflow-mul-if3 invariant_loop decreases_loop
-mul-if3 c = search rules
+offset_bounds-counts-d-in-loop-d-2 : tie.Need-offset_bounds-counts-d-in-loop-d-2 invariant_loop decreases_loop
+offset_bounds-counts-d-in-loop-d-2 c = search rules
 
-element-copy-out-if3 : tie.Need-element-copy-out-if3 invariant_loop decreases_loop
-element-copy-out-if3 c = search rules
+bounds-counts-d-in-loop-d-2 : tie.Need-bounds-counts-d-in-loop-d-2 invariant_loop decreases_loop
+bounds-counts-d-in-loop-d-2 c = search rules
 
-returns-3 : tie.Need-returns-3 invariant_loop decreases_loop
-returns-3 c ds body heads mark free w =
+returns-then-ceiling-counts : tie.Need-returns-then-ceiling-counts invariant_loop decreases_loop
+returns-then-ceiling-counts c ds body heads mark free w =
     let o = c.before.before in
     let e = o.before in
     let t = turn e in
     ap accepted
-    (sym (desk_reserve ds (book t ds body heads mark free) (after t) (d t) t.loop-test.taken
-    (exact e ds body heads mark free w) o.if2.false c.if3.true)
+    (sym (desk_reserve ds (book t ds body heads mark free) (after t) (d t) t.loop-d-test.taken
+    (exact e ds body heads mark free w) o.if-ceiling-held.false c.if-ceiling-counts.true)
     ∙ all t ds body heads mark free w)
 
-add-d : tie.Need-overflow-add-d invariant_loop decreases_loop
-add-d c = search rules
+overflow_add-d-in-loop-d : tie.Need-overflow_add-d-in-loop-d invariant_loop decreases_loop
+overflow_add-d-in-loop-d c = search rules
 
-loop-less : tie.Need-loop-smaller invariant_loop decreases_loop
-loop-less c = search rules
+loop-d-smaller : tie.Need-loop-d-smaller invariant_loop decreases_loop
+loop-d-smaller c = search rules
 
-loop-again : tie.Need-loop-preserved invariant_loop decreases_loop
-loop-again c =
+loop-d-preserved : tie.Need-loop-d-preserved invariant_loop decreases_loop
+loop-d-preserved c =
     let o = c.before.before in
     let e = o.before in
     record {
       to_end = omega arith;
       left = λ ds body heads mark free w.
           let t = turn e in
-          sym (desk_good ds (book t ds body heads mark free) (after t) (d t) t.loop-test.taken
-          (exact e ds body heads mark free w) o.if2.false c.if3.false)
+          sym (desk_good ds (book t ds body heads mark free) (after t) (d t) t.loop-d-test.taken
+          (exact e ds body heads mark free w) o.if-ceiling-held.false c.if-ceiling-counts.false)
           ∙ all t ds body heads mark free w;
     }
 
-sum-of-lacks-requires : tie.Need-sum-of-lacks-requires invariant_loop decreases_loop
-sum-of-lacks-requires c κs = c.before.before.requires
+sum_of_lacks-requires : tie.Need-sum_of_lacks-requires invariant_loop decreases_loop
+sum_of_lacks-requires c κs = c.before.before.requires
 
-returns-4 : tie.Need-returns-4 invariant_loop decreases_loop
-returns-4 c ds body heads mark free w =
+returns-then-had-sum_of_lacks : tie.Need-returns-then-had-sum_of_lacks invariant_loop decreases_loop
+returns-then-had-sum_of_lacks c ds body heads mark free w =
     let f = c.before in
     let a = (begun f).args in
     let test = lt-ltb a.had (lacks (limits_in a.counts.now) (held_in a.counts.now))
-    (let s = f.sum-of-lacks.ensures in let h = c.if4.true in omega arith) in
+    (let s = f.sum_of_lacks.ensures in let h = c.if-had-sum_of_lacks.true in omega arith) in
     ap accepted (ap (λ (x : Bool). cond x lacks_open (good a.lost)) (sym test) ∙ ends f ds body heads mark free w)
 
-returns-5 : tie.Need-returns-5 invariant_loop decreases_loop
-returns-5 c ds body heads mark free w =
+returns : tie.Need-returns invariant_loop decreases_loop
+returns c ds body heads mark free w =
     let f = c.before in
     let a = (begun f).args in
     let test = le-ltb a.had (lacks (limits_in a.counts.now) (held_in a.counts.now))
-    (let s = f.sum-of-lacks.ensures in let h = c.if4.false in omega arith) in
+    (let s = f.sum_of_lacks.ensures in let h = c.if-had-sum_of_lacks.false in omega arith) in
     ap accepted (ap (λ (x : Bool). cond x lacks_open (good a.lost)) (sym test) ∙ ends f ds body heads mark free w)
 
-pub judge-desks-spec : {M : Type 1} → statement M
-judge-desks-spec =
+pub judge_desks_spec : {M : Type 1} → statement M
+judge_desks_spec =
     tie.close
     (tie.spec
     invariant_loop
     decreases_loop
-    loop-holds
-    add-held
-    mul-held
-    element-copy-out-held
-    add-ceiling
-    mul-ceiling
-    element-copy-out-ceiling
-    mul-if1
-    array-read-if1
-    returns
-    returns-2
-    add-if3
-    mul-if3
-    element-copy-out-if3
-    returns-3
-    add-d
-    loop-less
-    loop-again
-    sum-of-lacks-requires
-    returns-4
-    returns-5)
+    loop-d-init
+    overflow_add-held
+    offset_bounds-counts-d
+    bounds-counts-d
+    overflow_add-ceiling
+    offset_bounds-counts-d-in-loop-d
+    bounds-counts-d-in-loop-d
+    offset_bounds-tally-d
+    bounds-tally-d
+    returns-then-held-tally
+    returns-then-ceiling-held
+    overflow_add-d
+    offset_bounds-counts-d-in-loop-d-2
+    bounds-counts-d-in-loop-d-2
+    returns-then-ceiling-counts
+    overflow_add-d-in-loop-d
+    loop-d-smaller
+    loop-d-preserved
+    sum_of_lacks-requires
+    returns-then-had-sum_of_lacks
+    returns)

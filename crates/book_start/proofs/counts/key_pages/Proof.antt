@@ -11,7 +11,7 @@ use Rattle.book_start.proofs.counts.key_pages.Statement.{statement}
 use Rattle.book_start.proofs.counts.key_pages.Tie as tie
 
 -- the word tells a place
-module _ (h : tie.After-head) where
+module _ (h : tie.In-Head-2) where
   abbrev at : tie.Start
   at = h.before.before.before.before
 
@@ -19,74 +19,74 @@ module _ (h : tie.After-head) where
   s = body_ground at.args.body.now at.args.mark
 
   abbrev place : ShHeadValue
-  place = h.head.given.0.0
+  place = h.head-1.given.0.0
 
   by_place : (v : ShHeadValue) → place ≡ v → pages_in (soundly (content_at s v)) ≡ pages_in (content s at.args.word)
   by_place v e =
       ap (λ (x : ShHeadValue). pages_in (soundly (content_at s x))) (sym e)
       ∙ ap pages_in
-      (sym (content_at_lem s at.args.word place (sym h.before.before.unpack8.ensures ∙ ap unpack_answer h.head.given.1)))
+      (sym (content_at_lem s at.args.word place (sym h.before.before.unpack8-head.ensures ∙ ap unpack_answer h.head-1.given.1)))
 
-unpack8-requires : tie.Need-unpack8-requires
-unpack8-requires c κs = search rules
+unpack8-head-requires : tie.Need-unpack8-head-requires
+unpack8-head-requires c κs = search rules
 
-enum-known-head : tie.Need-enum-known-head
-enum-known-head c = search rules
+enum_known-head : tie.Need-enum_known-head
+enum_known-head c = search rules
 
-enum_told : tie.Need-enum-told
-enum_told c = search rules
+enum_told-1 : tie.Need-enum_told-1
+enum_told-1 c = search rules
 
-returns : tie.Need-returns
-returns c =
+returns-in_default : tie.Need-returns-in_default
+returns-in_default c =
     let a = c.before.before.before.before.args in
     let s = body_ground a.body.now a.mark in
     pages_nowhere s a.word
-    (content_nowhere s a.word (sym c.before.before.unpack8.ensures ∙ ap unpack_answer c.enum_told.given.1))
+    (content_nowhere s a.word (sym c.before.before.unpack8-head.ensures ∙ ap unpack_answer c.enum_told-1.given.1))
 
-enum-told-2 : tie.Need-enum-told-2
-enum-told-2 c = search rules
+enum_told-in-Empty : tie.Need-enum_told-in-Empty
+enum_told-in-Empty c = search rules
 
-enum-told-3 : tie.Need-enum-told-3
-enum-told-3 c = search rules
+enum_told-in-Inline : tie.Need-enum_told-in-Inline
+enum_told-in-Inline c = search rules
 
-enum-told-4 : tie.Need-enum-told-4
-enum-told-4 c = search rules
+enum_told-in-Slab : tie.Need-enum_told-in-Slab
+enum_told-in-Slab c = search rules
 
-enum-known-place : tie.Need-enum-known-place
-enum-known-place c = search rules
+enum_known-place : tie.Need-enum_known-place
+enum_known-place c = search rules
 
-chain-pages-requires : tie.Need-chain-pages-requires
-chain-pages-requires c κs = search rules
+chain_pages-requires : tie.Need-chain_pages-requires
+chain_pages-requires c κs = search rules
 
-returns-2 : tie.Need-returns-2
-returns-2 c = let h = c.before.before.before in pages_empty (s h) ∙ by_place h _ c.enum-told2.given.1
+returns-in-Empty : tie.Need-returns-in-Empty
+returns-in-Empty c = let h = c.before.before.before in pages_empty (s h) ∙ by_place h _ c.enum_told-in-Empty-1.given.1
 
-returns-3 : tie.Need-returns-3
-returns-3 c = let h = c.before.before.before in pages_inline (s h) _ _ ∙ by_place h _ c.enum-told3.given.1
+returns-in-Inline : tie.Need-returns-in-Inline
+returns-in-Inline c = let h = c.before.before.before in pages_inline (s h) _ _ ∙ by_place h _ c.enum_told-in-Inline-1.given.1
 
-returns-4 : tie.Need-returns-4
-returns-4 c = let h = c.before.before.before in pages_slab (s h) _ _ _ ∙ by_place h _ c.enum-told4.given.1
+returns-in-Slab : tie.Need-returns-in-Slab
+returns-in-Slab c = let h = c.before.before.before in pages_slab (s h) _ _ _ ∙ by_place h _ c.enum_told-in-Slab-1.given.1
 
-returns-5 : tie.Need-returns-5
-returns-5 c =
+returns-in-Extent : tie.Need-returns-in-Extent
+returns-in-Extent c =
     let p = c.before.before in
     let h = p.before.before.before in
-    c.chain-pages.ensures ∙ by_place h _ p.place.given.1
+    c.chain_pages.ensures ∙ by_place h _ p.place-1.given.1
 
-pub key-pages-spec : {M : Type 1} → statement M
-key-pages-spec =
+pub key_pages_spec : {M : Type 1} → statement M
+key_pages_spec =
     tie.close
     (tie.spec
-    unpack8-requires
-    enum-known-head
-    enum_told
-    returns
-    enum-told-2
-    enum-told-3
-    enum-told-4
-    enum-known-place
-    chain-pages-requires
-    returns-2
-    returns-3
-    returns-4
-    returns-5)
+    unpack8-head-requires
+    enum_known-head
+    enum_told-1
+    returns-in_default
+    enum_told-in-Empty
+    enum_told-in-Inline
+    enum_told-in-Slab
+    enum_known-place
+    chain_pages-requires
+    returns-in-Empty
+    returns-in-Inline
+    returns-in-Slab
+    returns-in-Extent)

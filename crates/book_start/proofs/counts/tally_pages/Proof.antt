@@ -20,19 +20,19 @@ record Tallying (body heads : List ℕ) (mark : ℕ) (ds tally : List ℕ) (key 
   to_end : key ≤ length heads
   all : (free counts : List ℕ) → TalliedTo ds (book_of body heads mark free counts) tally key
 
-abbrev invariant_loop : tie.invariant_loop
+abbrev invariant_loop : tie.invariant-loop-key
 invariant_loop body heads mark desks tally₀ key₀ tally key = Tallying body heads mark desks tally key
 
-abbrev decreases_loop : tie.decreases_loop
+abbrev decreases_loop : tie.decreases-loop-key
 decreases_loop body heads mark desks tally₀ key₀ tally key = length heads - key
 
 -- a key
-module _ (t : tie.In-loop invariant_loop decreases_loop) where
+module _ (t : tie.In-loop-key invariant_loop decreases_loop) where
   abbrev at : tie.Start invariant_loop decreases_loop
   at = t.before.before.before.before.before
 
   abbrev key : ℕ
-  key = t.before.loop.key
+  key = t.before.loop-key.key
 
   abbrev ds : List ℕ
   ds = at.args.desks.now
@@ -44,7 +44,7 @@ module _ (t : tie.In-loop invariant_loop decreases_loop) where
   long = (list_good ds (length at.args.heads.now) at.pre.named).0
 
   desk : desk_of ds key < desks
-  desk = desk_in_lem ds (length at.args.heads.now) key at.pre.named t.loop-test.taken
+  desk = desk_in_lem ds (length at.args.heads.now) key at.pre.named t.loop-key-test.taken
 
   few : (k : ℕ) → pages_held (book [] []) k ≤ 2 ^ 29
   few k =
@@ -53,91 +53,91 @@ module _ (t : tie.In-loop invariant_loop decreases_loop) where
       let m = at.pre.most in
       omega arith
 
-  small : desk_count (desk_of ds key) t.before.loop.tally ≤ 2 ^ 45
+  small : desk_count (desk_of ds key) t.before.loop-key.tally ≤ 2 ^ 45
   small =
-      let s = tally_small ds (book [] []) t.before.loop.tally key (t.before.loop.inv.all [] []) (2 ^ 29) (desk_of ds key)
+      let s = tally_small ds (book [] []) t.before.loop-key.tally key (t.before.loop-key.invariant.all [] []) (2 ^ 29) (desk_of ds key)
       few desk in
       let h = at.pre.few in
-      let k = t.loop-test.taken in
+      let k = t.loop-key-test.taken in
       omega arith
 
-  sixteen : length t.before.loop.tally ≡ desks
-  sixteen = (t.before.loop.inv.all [] []).sixteen
+  sixteen : length t.before.loop-key.tally ≡ desks
+  sixteen = (t.before.loop-key.invariant.all [] []).sixteen
 
-loop-holds : tie.Need-loop-init invariant_loop decreases_loop
-loop-holds c = record { to_end = omega arith; all = λ free counts. tallied_none _ _ }
+loop-key-init : tie.Need-loop-key-init invariant_loop decreases_loop
+loop-key-init c = record { to_end = omega arith; all = λ free counts. tallied_none _ _ }
 
-shared-slice-read-desk : tie.Need-shared-slice-read-desk invariant_loop decreases_loop
-shared-slice-read-desk c = let e = long c.before in omega arith
+bounds-desks-key : tie.Need-bounds-desks-key invariant_loop decreases_loop
+bounds-desks-key c = let e = long c.before in omega arith
 
-cast-desk : tie.Need-overflow-cast-desk invariant_loop decreases_loop
-cast-desk c = omega (arith, desk c.before)
+overflow_cast-desk : tie.Need-overflow_cast-desk invariant_loop decreases_loop
+overflow_cast-desk c = omega (arith, desk c.before)
 
-mul-key-pages : tie.Need-overflow-mul-key-pages invariant_loop decreases_loop
-mul-key-pages c = search rules
+offset_bounds-heads-key : tie.Need-offset_bounds-heads-key invariant_loop decreases_loop
+offset_bounds-heads-key c = search rules
 
-shared-slice-read-key-pages : tie.Need-shared-slice-read-key-pages invariant_loop decreases_loop
-shared-slice-read-key-pages c = search rules
+bounds-heads-key : tie.Need-bounds-heads-key invariant_loop decreases_loop
+bounds-heads-key c = search rules
 
-key-pages-requires : tie.Need-key-pages-requires invariant_loop decreases_loop
-key-pages-requires c κs = (at c.before.before).requires.within
+key_pages-requires : tie.Need-key_pages-requires invariant_loop decreases_loop
+key_pages-requires c κs = (at c.before.before).requires.within
 
-mul-tally : tie.Need-overflow-mul-tally invariant_loop decreases_loop
-mul-tally c = omega (arith, desk c.before.before.before)
+offset_bounds-tally-desk : tie.Need-offset_bounds-tally-desk invariant_loop decreases_loop
+offset_bounds-tally-desk c = omega (arith, desk c.before.before.before)
 
-array-read-tally : tie.Need-array-read-tally invariant_loop decreases_loop
-array-read-tally c = let t = c.before.before.before in omega (arith, desk t, sixteen t)
+bounds-tally-desk : tie.Need-bounds-tally-desk invariant_loop decreases_loop
+bounds-tally-desk c = let t = c.before.before.before in omega (arith, desk t, sixteen t)
 
-add-tally : tie.Need-overflow-add-tally invariant_loop decreases_loop
-add-tally c =
+overflow_add-tally : tie.Need-overflow_add-tally invariant_loop decreases_loop
+overflow_add-tally c =
     let t = c.before.before.before in
     let p = c.key_pages.ensures in
     omega (arith, small t, few t (key t))
 
-array-write-tally : tie.Need-array-write-tally invariant_loop decreases_loop
-array-write-tally c = let t = c.before.before.before in omega (arith, desk t, sixteen t)
+bounds-tally-desk-in-loop-key : tie.Need-bounds-tally-desk-in-loop-key invariant_loop decreases_loop
+bounds-tally-desk-in-loop-key c = let t = c.before.before.before in omega (arith, desk t, sixteen t)
 
-add-key : tie.Need-overflow-add-key invariant_loop decreases_loop
-add-key c = search rules
+overflow_add-key : tie.Need-overflow_add-key invariant_loop decreases_loop
+overflow_add-key c = search rules
 
-loop-less : tie.Need-loop-smaller invariant_loop decreases_loop
-loop-less c = search rules
+loop-key-smaller : tie.Need-loop-key-smaller invariant_loop decreases_loop
+loop-key-smaller c = search rules
 
-loop-again : tie.Need-loop-preserved invariant_loop decreases_loop
-loop-again c =
+loop-key-preserved : tie.Need-loop-key-preserved invariant_loop decreases_loop
+loop-key-preserved c =
     let t = c.before.before.before in
     record {
       to_end = omega arith;
       all = λ free counts.
-          tally_next (ds t) (book t free counts) t.before.loop.tally (key t) (t.before.loop.invariant.all free counts)
+          tally_next (ds t) (book t free counts) t.before.loop-key.tally (key t) (t.before.loop-key.invariant.all free counts)
           c.key_pages.result (desk t) c.key_pages.ensures;
     }
 
 returns : tie.Need-returns invariant_loop decreases_loop
 returns c free counts d h =
-    let l = c.before.loop in
+    let l = c.before.loop-key in
     let a = c.before.before.before.before.before.args in
     let e : l.key ≡ length a.heads.now = let n = l.invariant.to_end in omega arith in
     (l.invariant.all free counts).sums d h
     ∙ ap (λ (k : ℕ). sum_to k (pages_for a.desks.now (book_of a.body.now a.heads.now a.mark free counts) d)) e
 
-pub tally-pages-spec : {M : Type 1} → statement M
-tally-pages-spec =
+pub tally_pages_spec : {M : Type 1} → statement M
+tally_pages_spec =
     tie.close
     (tie.spec
     invariant_loop
     decreases_loop
-    loop-holds
-    shared-slice-read-desk
-    cast-desk
-    mul-key-pages
-    shared-slice-read-key-pages
-    key-pages-requires
-    mul-tally
-    array-read-tally
-    add-tally
-    array-write-tally
-    add-key
-    loop-less
-    loop-again
+    loop-key-init
+    bounds-desks-key
+    overflow_cast-desk
+    offset_bounds-heads-key
+    bounds-heads-key
+    key_pages-requires
+    offset_bounds-tally-desk
+    bounds-tally-desk
+    overflow_add-tally
+    bounds-tally-desk-in-loop-key
+    overflow_add-key
+    loop-key-smaller
+    loop-key-preserved
     returns)

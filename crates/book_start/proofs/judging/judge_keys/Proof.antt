@@ -24,14 +24,14 @@ record JudgingKeys (s : Space) (heads work₀ work : List ℕ) (lost key : ℕ) 
   goes : (units : ℕ) (lent : List ℕ) → Marked units s.mark lent [] (units_of work₀)
       → KeysGo units lent (judge_keys s 0 heads []) s heads key (units_of work) lost
 
-abbrev invariant_loop : tie.invariant_loop
+abbrev invariant_loop : tie.invariant-loop-key
 invariant_loop body heads mark free work₀ lost₀ key₀ work lost key = JudgingKeys (space body mark free) heads work₀ work lost key
 
-abbrev decreases_loop : tie.decreases_loop
+abbrev decreases_loop : tie.decreases-loop-key
 decreases_loop body heads mark free work₀ lost₀ key₀ work lost key = length heads - key
 
 -- where the loop stands
-module _ (l : tie.At-loop invariant_loop decreases_loop) where
+module _ (l : tie.At-loop-key invariant_loop decreases_loop) where
   abbrev at : tie.Start invariant_loop decreases_loop
   at = l.before.before.before.before.before
 
@@ -42,23 +42,23 @@ module _ (l : tie.At-loop invariant_loop decreases_loop) where
   s = space at.args.body.now at.args.mark at.args.free.now
 
   abbrev key : ℕ
-  key = l.loop.key
+  key = l.loop-key.key
 
   abbrev work : List ℕ
-  work = units_of l.loop.work
+  work = units_of l.loop-key.work
 
   abbrev lost : ℕ
-  lost = l.loop.lost
+  lost = l.loop-key.lost
 
   -- what no claims lead to
   go : KeysGo at.pre.units at.pre.lent (judge_keys s 0 heads []) s heads key work lost
-  go = l.loop.inv.goes at.pre.units at.pre.lent at.pre.marked
+  go = l.loop-key.invariant.goes at.pre.units at.pre.lent at.pre.marked
 
-sub-lost : tie.Need-overflow-sub-lost invariant_loop decreases_loop
-sub-lost c = let f = c.before.before.before.before.requires.marked.from in omega arith
+overflow_sub-lost : tie.Need-overflow_sub-lost invariant_loop decreases_loop
+overflow_sub-lost c = let f = c.before.before.before.before.requires.marked.from in omega arith
 
-loop-holds : tie.Need-loop-init invariant_loop decreases_loop
-loop-holds c =
+loop-key-init : tie.Need-loop-key-init invariant_loop decreases_loop
+loop-key-init c =
     let t = c.before.before.before.before in
     record {
       same = refl;
@@ -67,14 +67,14 @@ loop-holds c =
           record { claims = []; shows = m; left = none_leave t.args.mark m.from t.requires.aligned; gives = refl };
     }
 
-mul-claim-key : tie.Need-overflow-mul-claim-key invariant_loop decreases_loop
-mul-claim-key c = search rules
+offset_bounds-heads-key : tie.Need-offset_bounds-heads-key invariant_loop decreases_loop
+offset_bounds-heads-key c = search rules
 
-shared-slice-read-claim-key : tie.Need-shared-slice-read-claim-key invariant_loop decreases_loop
-shared-slice-read-claim-key c = search rules
+bounds-heads-key : tie.Need-bounds-heads-key invariant_loop decreases_loop
+bounds-heads-key c = search rules
 
-claim-key-requires : tie.Need-claim-key-requires invariant_loop decreases_loop
-claim-key-requires c κs =
+claim_key-got-requires : tie.Need-claim_key-got-requires invariant_loop decreases_loop
+claim_key-got-requires c κs =
     let l = c.before.before.before in
     let g = go l in
     record {
@@ -82,74 +82,74 @@ claim-key-requires c κs =
       shown = record { units = (at l).requires.units; lent = (at l).requires.lent; claims = g.claims; shows = g.shows };
     }
 
-enum-known-got : tie.Need-enum-known-got invariant_loop decreases_loop
-enum-known-got c = search rules
+enum_known-got : tie.Need-enum_known-got invariant_loop decreases_loop
+enum_known-got c = search rules
 
-sub-lost-2 : tie.Need-overflow-sub-lost-2 invariant_loop decreases_loop
-sub-lost-2 c =
-    let r = c.before.before.before.before.before.claim-key in
+overflow_sub-lost-in-Done : tie.Need-overflow_sub-lost-in-Done invariant_loop decreases_loop
+overflow_sub-lost-in-Done c =
+    let r = c.before.before.before.before.before.claim_key-got in
     let t = c.before.before.before.before.before.before.before.before in
     let l = t.before in
     let g = go l in
-    let h = keys_took (at l).requires.units (at l).requires.lent _ (s l) (heads l) (key l) (work l) (lost l) g t.loop-test.true _ r.result
-    (r.ensures (at l).requires.units (at l).requires.lent g.claims g.shows) _ c.before.got.given.1 in
+    let h = keys_took (at l).requires.units (at l).requires.lent _ (s l) (heads l) (key l) (work l) (lost l) g t.loop-key-test.true _ r.result
+    (r.ensures (at l).requires.units (at l).requires.lent g.claims g.shows) _ c.before.got-1.given.1 in
     omega arith
 
-enum_told : tie.Need-enum-told invariant_loop decreases_loop
-enum_told c = search rules
+enum_told-1 : tie.Need-enum_told-1 invariant_loop decreases_loop
+enum_told-1 c = search rules
 
-same_length : tie.Need-same-length invariant_loop decreases_loop
-same_length c = search rules
+shape_of-work-in-Unfit : tie.Need-shape_of-work-in-Unfit invariant_loop decreases_loop
+shape_of-work-in-Unfit c = search rules
 
-returns : tie.Need-returns invariant_loop decreases_loop
-returns c units lent m =
-    let r = c.before.before.before.before.claim-key in
+returns-in-Unfit : tie.Need-returns-in-Unfit invariant_loop decreases_loop
+returns-in-Unfit c units lent m =
+    let r = c.before.before.before.before.claim_key-got in
     let t = c.before.before.before.before.before.before.before in
     let l = t.before in
-    let g = l.loop.invariant.goes units lent m in
-    keys_unsound units lent _ (s l) (heads l) (key l) (work l) (lost l) g t.loop-test.true _ r.result
+    let g = l.loop-key.invariant.goes units lent m in
+    keys_unsound units lent _ (s l) (heads l) (key l) (work l) (lost l) g t.loop-key-test.true _ r.result
     (r.ensures units lent g.claims g.shows)
-    c.enum_told.given.1
+    c.enum_told-1.given.1
 
-enum-told-2 : tie.Need-enum-told-2 invariant_loop decreases_loop
-enum-told-2 c = search rules
+enum_told-in-Shared : tie.Need-enum_told-in-Shared invariant_loop decreases_loop
+enum_told-in-Shared c = search rules
 
-same-length-2 : tie.Need-same-length-2 invariant_loop decreases_loop
-same-length-2 c = search rules
+shape_of-work-in-Shared : tie.Need-shape_of-work-in-Shared invariant_loop decreases_loop
+shape_of-work-in-Shared c = search rules
 
-returns-2 : tie.Need-returns-2 invariant_loop decreases_loop
-returns-2 c units lent m =
-    let r = c.before.before.before.before.claim-key in
+returns-in-Shared : tie.Need-returns-in-Shared invariant_loop decreases_loop
+returns-in-Shared c units lent m =
+    let r = c.before.before.before.before.claim_key-got in
     let t = c.before.before.before.before.before.before.before in
     let l = t.before in
-    let g = l.loop.invariant.goes units lent m in
-    keys_shared units lent _ (s l) (heads l) (key l) (work l) (lost l) g t.loop-test.true _ r.result
+    let g = l.loop-key.invariant.goes units lent m in
+    keys_shared units lent _ (s l) (heads l) (key l) (work l) (lost l) g t.loop-key-test.true _ r.result
     (r.ensures units lent g.claims g.shows)
-    c.enum-told2.given.1
+    c.enum_told-in-Shared-1.given.1
 
-add-key : tie.Need-overflow-add-key invariant_loop decreases_loop
-add-key c = search rules
+overflow_add-key : tie.Need-overflow_add-key invariant_loop decreases_loop
+overflow_add-key c = search rules
 
-loop-less : tie.Need-loop-smaller invariant_loop decreases_loop
-loop-less c = omega arith
+loop-key-smaller : tie.Need-loop-key-smaller invariant_loop decreases_loop
+loop-key-smaller c = omega arith
 
-loop-again : tie.Need-loop-preserved invariant_loop decreases_loop
-loop-again c =
-    let r = c.before.before.before.before.before.claim-key in
+loop-key-preserved : tie.Need-loop-key-preserved invariant_loop decreases_loop
+loop-key-preserved c =
+    let r = c.before.before.before.before.before.claim_key-got in
     let t = c.before.before.before.before.before.before.before.before in
     let l = t.before in
     record {
-      same = r.auto.1.1.0 ∙ l.loop.invariant.same;
+      same = r.auto.1.1.0 ∙ l.loop-key.invariant.same;
       to_end = omega arith;
       goes = λ units lent m.
-          let g = l.loop.invariant.goes units lent m in
-          keys_turn units lent _ (s l) (heads l) (key l) (work l) (lost l) g t.loop-test.true _ r.result (r.ensures units lent
+          let g = l.loop-key.invariant.goes units lent m in
+          keys_turn units lent _ (s l) (heads l) (key l) (work l) (lost l) g t.loop-key-test.true _ r.result (r.ensures units lent
           g.claims g.shows)
-          _ c.before.got.given.1;
+          _ c.before.got-1.given.1;
     }
 
-judge-lists-requires : tie.Need-judge-lists-requires invariant_loop decreases_loop
-judge-lists-requires c κs =
+judge_lists-requires : tie.Need-judge_lists-requires invariant_loop decreases_loop
+judge_lists-requires c κs =
     let l = c.before.before in
     let g = go l in
     record {
@@ -162,39 +162,39 @@ judge-lists-requires c κs =
       leaves = g.left;
     }
 
-same-length-3 : tie.Need-same-length-3 invariant_loop decreases_loop
-same-length-3 c = search rules
+shape_of-work : tie.Need-shape_of-work invariant_loop decreases_loop
+shape_of-work c = search rules
 
-returns-3 : tie.Need-returns-3 invariant_loop decreases_loop
-returns-3 c units lent m =
+returns : tie.Need-returns invariant_loop decreases_loop
+returns c units lent m =
     let d = c.before.before.before.before in
     let l = d.before in
-    let g = keys_end units lent _ (s l) (heads l) (key l) (work l) (lost l) (l.loop.invariant.goes units lent m) (omega arith) in
-    let r = c.before.before.judge-lists.ensures units lent g.claims g.shows g.left in
+    let g = keys_end units lent _ (s l) (heads l) (key l) (work l) (lost l) (l.loop-key.invariant.goes units lent m) (omega arith) in
+    let r = c.before.before.judge_lists.ensures units lent g.claims g.shows g.left in
     record { claims = r.claims; shows = r.shows; told = r.told ∙ ap accepted g.gives }
 
-pub judge-keys-spec : {M : Type 1} → statement M
-judge-keys-spec =
+pub judge_keys_spec : {M : Type 1} → statement M
+judge_keys_spec =
     tie.close
     (tie.spec
     invariant_loop
     decreases_loop
-    sub-lost
-    loop-holds
-    mul-claim-key
-    shared-slice-read-claim-key
-    claim-key-requires
-    enum-known-got
-    sub-lost-2
-    enum_told
-    same_length
-    returns
-    enum-told-2
-    same-length-2
-    returns-2
-    add-key
-    loop-less
-    loop-again
-    judge-lists-requires
-    same-length-3
-    returns-3)
+    overflow_sub-lost
+    loop-key-init
+    offset_bounds-heads-key
+    bounds-heads-key
+    claim_key-got-requires
+    enum_known-got
+    overflow_sub-lost-in-Done
+    enum_told-1
+    shape_of-work-in-Unfit
+    returns-in-Unfit
+    enum_told-in-Shared
+    shape_of-work-in-Shared
+    returns-in-Shared
+    overflow_add-key
+    loop-key-smaller
+    loop-key-preserved
+    judge_lists-requires
+    shape_of-work
+    returns)

@@ -55,26 +55,26 @@ module _ (t : tie.Start) where
   blocks = judge_keys book.space 0 book.heads []
 
 -- the number of the call
-module _ (n : tie.After-judge-call) where
+module _ (n : tie.After-judge_call-number) where
   abbrev called : tie.Start
   called = n.before.before.before.before.before
 
-  number : n.judge-call.result ≡ call_number (ds called) (book called)
-  number = n.judge-call.ensures called.args.heads.now (free called) refl
+  number : n.judge_call-number.result ≡ call_number (ds called) (book called)
+  number = n.judge_call-number.ensures called.args.heads.now (free called) refl
 
 -- shape, counts, list and work list passed their tests
-module _ (e : tie.Else2) where
+module _ (e : tie.Else-work-bytes) where
   abbrev at : tie.Start
   at = called e.before.before
 
   none : call_number (ds at) (book at) ≡ 0
-  none = sym (number e.before.before) ∙ e.before.if1.left
+  none = sym (number e.before.before) ∙ e.before.if-number-ne0.left
 
   in_shape : InShape (book at).space
   in_shape = (shape_holds (book at).space (length (book at).heads) (judges_passed (ds at) (book at) (work at) none).0).0
 
   enough : bytes at ≤ length (work at)
-  enough = let h = e.if2.left in omega arith
+  enough = let h = e.if-work-bytes.left in omega arith
 
   eight : 8 * bytes at ≡ units at
   eight = let p = in_shape.paged in omega arith
@@ -83,78 +83,78 @@ module _ (e : tie.Else2) where
   fits = let p = in_shape.paged in let w = in_shape.within in omega arith
 
 -- the work list was cleared
-module _ (f : tie.After-fill-bytes) where
-  abbrev passed : tie.Else2
+module _ (f : tie.After-fill_bytes) where
+  abbrev passed : tie.Else-work-bytes
   passed = f.before.before
 
-  shows : Marked (units (at passed)) (mark (at passed)) (units_of (work (at passed))) [] (units_of f.fill-bytes.last.0)
+  shows : Marked (units (at passed)) (mark (at passed)) (units_of (work (at passed))) [] (units_of f.fill_bytes.last.0)
   shows =
       let t = at passed in
       let long = units_long (work t) in
       let n = enough passed in
       let e = eight passed in
       shows_none (units t) (mark t) (units_of (work t)) _ (in_shape passed).begins (fits passed) (omega arith)
-      (ap units_of (f.fill-bytes.ensures ∙ cleared_is (bytes t) (work t)) ∙ cleared_bytes (bytes t) (units t) (work t) e)
+      (ap units_of (f.fill_bytes.ensures ∙ cleared_is (bytes t) (work t)) ∙ cleared_bytes (bytes t) (units t) (work t) e)
 
 -- the blocks were judged, and the work list cleared again
-module _ (z : tie.After-fill-bytes2) where
-  abbrev keys : tie.After-judge-keys
+module _ (z : tie.After-fill_bytes-2) where
+  abbrev keys : tie.After-judge_keys-got
   keys = z.before.before.before.before
 
-  abbrev filled : tie.After-fill-bytes
+  abbrev filled : tie.After-fill_bytes
   filled = keys.before.before.before.before.before
 
   abbrev start : tie.Start
   start = at (passed filled)
 
-  judged : JudgesAs (units start) (mark start) (units_of (work start)) (blocks start) keys.judge-keys.result
-      (units_of keys.judge-keys.last.1.1.1.1.0)
-  judged = keys.judge-keys.ensures (units start) (units_of (work start)) (shows filled)
+  judged : JudgesAs (units start) (mark start) (units_of (work start)) (blocks start) keys.judge_keys-got.result
+      (units_of keys.judge_keys-got.last.1.1.1.1.0)
+  judged = keys.judge_keys-got.ensures (units start) (units_of (work start)) (shows filled)
 
   all : judges (ds start) (book start) (length (work start)) ≡ accepted (verdict_of (ds start) (book start))
   all = judges_all (ds start) (book start) (work start) (none (passed filled)) (enough (passed filled))
 
-  left : z.fill-bytes2.last.0
+  left : z.fill_bytes-2.last.0
       ≡ work_after (bytes start) (work start) (judges (ds start) (book start) (length (work start)))
   left =
-      z.fill-bytes2.ensures ∙ cleared_is (bytes start) _
+      z.fill_bytes-2.ensures ∙ cleared_is (bytes start) _
       ∙ shown_bytes (bytes start) (units start) (mark start) (work start) judged.claims _ (eight (passed filled))
       (shown_cleared (units start) (mark start) (units_of (work start)) judged.claims _ judged.shows)
       ∙ after_judged (bytes start) (work start) (judges (ds start) (book start) (length (work start))) all
 
 -- the ground of that judgement
 module _ (g : tie.After-ground) where
-  abbrev ended : tie.After-fill-bytes2
+  abbrev ended : tie.After-fill_bytes-2
   ended = g.before.before.before
 
   body_ground : g.body_ground.result ≡ ground_of (blocks (start ended))
   body_ground = g.body_ground.ensures ∙ ap (λ (a : Answer Verdict). value_or ground_of a 0) (judged ended).told
 
-judge-call-requires : tie.Need-judge-call-requires
-judge-call-requires c κs = search rules
+judge_call-number-requires : tie.Need-judge_call-number-requires
+judge_call-number-requires c κs = search rules
 
-returns : tie.Need-returns
-returns c =
+returns-then-number-ne0 : tie.Need-returns-then-number-ne0
+returns-then-number-ne0 c =
     let n = c.before in
     let t = called n in
-    let a = judges_off (ds t) (book t) (work t) (λ z. c.if1.true (number n ∙ z)) in
+    let a = judges_off (ds t) (book t) (work t) (λ z. c.if-number-ne0.true (number n ∙ z)) in
     (ap refused (number n) ∙ sym a, after_refused (bytes t) (work t) (judges (ds t) (book t) (length (work t))) a)
 
-returns-2 : tie.Need-returns-2
-returns-2 c =
+returns-then-work-bytes : tie.Need-returns-then-work-bytes
+returns-then-work-bytes c =
     let n = c.before.before in
     let t = called n in
-    let a = judges_short (ds t) (book t) (work t) (sym (number n) ∙ c.before.if1.false) c.if2.true in
+    let a = judges_short (ds t) (book t) (work t) (sym (number n) ∙ c.before.if-number-ne0.false) c.if-work-bytes.true in
     (sym a, after_refused (bytes t) (work t) (judges (ds t) (book t) (length (work t))) a)
 
-fill-bytes-requires : tie.Need-fill-bytes-requires
-fill-bytes-requires c κs = let h = enough c.before in omega arith
+fill_bytes-requires : tie.Need-fill_bytes-requires
+fill_bytes-requires c κs = let h = enough c.before in omega arith
 
-slice-aggregate-judge-keys : tie.Need-slice-aggregate-judge-keys
-slice-aggregate-judge-keys c = search rules
+slice_bounds-judge_keys-end : tie.Need-slice_bounds-judge_keys-end
+slice_bounds-judge_keys-end c = search rules
 
-judge-keys-requires : tie.Need-judge-keys-requires
-judge-keys-requires c κs =
+judge_keys-got-requires : tie.Need-judge_keys-got-requires
+judge_keys-got-requires c κs =
     let f = c.before.before.before.before in
     let e = passed f in
     record {
@@ -166,78 +166,78 @@ judge-keys-requires c κs =
       marked = shows f;
     }
 
-fill-bytes-requires-2 : tie.Need-fill-bytes-requires-2
-fill-bytes-requires-2 c κs =
+fill_bytes-requires-2 : tie.Need-fill_bytes-requires-2
+fill_bytes-requires-2 c κs =
     let j = c.before.before.before in
     let f = j.before.before.before.before.before in
     let n = enough (passed f) in
-    let k = f.fill-bytes.auto.0 in
-    let i = j.judge-keys.auto.1.1.1.1.0 in
+    let k = f.fill_bytes.auto.0 in
+    let i = j.judge_keys-got.auto.1.1.1.1.0 in
     omega arith
 
 ground-requires : tie.Need-ground-requires
 ground-requires c κs = search rules
 
-same_length : tie.Need-same-length
-same_length c = search rules
+shape_of-work-then-ground-ne0 : tie.Need-shape_of-work-then-ground-ne0
+shape_of-work-then-ground-ne0 c = search rules
 
-returns-3 : tie.Need-returns-3
-returns-3 c =
+returns-then-ground-ne0 : tie.Need-returns-then-ground-ne0
+returns-then-ground-ne0 c =
     let g = c.before in
     let z = ended g in
     let t = start z in (
-      (judged z).told ∙ ap accepted (sym (judged_ends (ds t) (book t) (work t) (λ e. c.if3.true (body_ground g ∙ e)))) ∙ sym (all z),
+      (judged z).told ∙ ap accepted (sym (judged_ends (ds t) (book t) (work t) (λ e. c.if-ground-ne0.true (body_ground g ∙ e)))) ∙ sym (all z),
       left z,
     )
 
 lost-requires : tie.Need-lost-requires
 lost-requires c κs = search rules
 
-judge-counts-requires : tie.Need-judge-counts-requires
-judge-counts-requires c κs =
+judge_counts-requires : tie.Need-judge_counts-requires
+judge_counts-requires c κs =
     let g = c.before.before.before in
     let z = ended g in
     let t = start z in
     let e = passed (filled z) in
     let p = judges_passed (ds t) (book t) (work t) (none e) in
-    let good = judged_blocks (ds t) (book t) (work t) (sym (body_ground g) ∙ c.before.before.if3.false) in
+    let good = judged_blocks (ds t) (book t) (work t) (sym (body_ground g) ∙ c.before.before.if-ground-ne0.false) in
     record {
       blocks = (judged_start (book t) (nine t) _ p.0 good).0;
       low = p.1;
       named = p.2;
     }
 
-same-length-2 : tie.Need-same-length-2
-same-length-2 c = search rules
+shape_of-work : tie.Need-shape_of-work
+shape_of-work c = search rules
 
-returns-4 : tie.Need-returns-4
-returns-4 c =
+returns : tie.Need-returns
+returns c =
     let o = c.before in
     let g = o.before.before.before in
     let z = ended g in
     let t = start z in (
-      c.judge-counts.ensures
+      c.judge_counts.ensures
           ∙ ap (λ (n : ℕ). accepted (counts_verdict (ds t) (book t) n))
           (o.lost.ensures ∙ ap (λ (a : Answer Verdict). value_or lost_of a 0) (judged z).told)
-          ∙ ap accepted (sym (judged_on (ds t) (book t) (work t) (sym (body_ground g) ∙ o.before.before.if3.false))) ∙ sym (all z),
+          ∙ ap accepted (sym (judged_on (ds t) (book t) (work t) (sym (body_ground g) ∙ o.before.before.if-ground-ne0.false))) ∙ sym (all z),
       left z,
     )
 
-pub judge-start-spec : {M : Type 1} → statement M
-judge-start-spec =
+pub judge_start_spec : {M : Type 1} → statement M
+judge_start_spec =
     tie.close
     (tie.spec
-    judge-call-requires
-    returns
-    returns-2
-    fill-bytes-requires
-    slice-aggregate-judge-keys
-    judge-keys-requires
-    fill-bytes-requires-2
+    judge_call-number-requires
+    returns-then-number-ne0
+    returns-then-work-bytes
+    fill_bytes-requires
+    slice_bounds-judge_keys-end
+    judge_keys-got-requires
+    fill_bytes-requires-2
     ground-requires
-    same_length
-    returns-3
+    shape_of-work-then-ground-ne0
+    returns-then-ground-ne0
     lost-requires
-    judge-counts-requires
-    same-length-2
-    returns-4)
+    judge_counts-requires
+    shape_of-work
+    returns)

@@ -19,56 +19,56 @@ record ClearingWords (words₀ words : List ℕ) (i : ℕ) : Type 0 where
   -- Those passed are 0.
   passed : take i words ≡ replicate i 0
 
-abbrev invariant_loop : tie.invariant_loop
+abbrev invariant_loop : tie.invariant-loop-i
 invariant_loop words₀ i₀ words i = ClearingWords words₀ words i
 
-abbrev decreases_loop : tie.decreases_loop
+abbrev decreases_loop : tie.decreases-loop-i
 decreases_loop words₀ i₀ words i = length words - i
 
-loop-holds : tie.Need-loop-init invariant_loop decreases_loop
-loop-holds c = record { to_end = omega arith; same = refl; passed = refl }
+loop-i-init : tie.Need-loop-i-init invariant_loop decreases_loop
+loop-i-init c = record { to_end = omega arith; same = refl; passed = refl }
 
-mul_words : tie.Need-overflow-mul-words invariant_loop decreases_loop
-mul_words c = search rules
+offset_bounds-words-i : tie.Need-offset_bounds-words-i invariant_loop decreases_loop
+offset_bounds-words-i c = search rules
 
-slice-write-words : tie.Need-slice-write-words invariant_loop decreases_loop
-slice-write-words c = search rules
+bounds-words-i : tie.Need-bounds-words-i invariant_loop decreases_loop
+bounds-words-i c = search rules
 
-add-i : tie.Need-overflow-add-i invariant_loop decreases_loop
-add-i c = search rules
+overflow_add-i : tie.Need-overflow_add-i invariant_loop decreases_loop
+overflow_add-i c = search rules
 
-loop-less : tie.Need-loop-smaller invariant_loop decreases_loop
-loop-less c = simp length-set (omega arith)
+loop-i-smaller : tie.Need-loop-i-smaller invariant_loop decreases_loop
+loop-i-smaller c = simp length-set (omega arith)
 
-loop-again : tie.Need-loop-preserved invariant_loop decreases_loop
-loop-again c =
-    let l = c.before.loop in
+loop-i-preserved : tie.Need-loop-i-preserved invariant_loop decreases_loop
+loop-i-preserved c =
+    let l = c.before.loop-i in
     record {
       to_end = simp length-set (omega arith);
       same = simp length-set l.invariant.same;
       passed = clear_step l.words l.i (search rules) l.invariant.passed;
     }
 
-same_length : tie.Need-same-length invariant_loop decreases_loop
-same_length c = search rules
+shape_of-words : tie.Need-shape_of-words invariant_loop decreases_loop
+shape_of-words c = search rules
 
 returns : tie.Need-returns invariant_loop decreases_loop
 returns c =
-    let l = c.before.loop in
+    let l = c.before.loop-i in
     let all : l.i ≡ length c.before.before.args.words.now = omega (arith, l.invariant.same) in
     sym (take_all l.i l.words (search rules)) ∙ l.invariant.passed ∙ ap (λ (k : ℕ). replicate k 0) all
 
-pub clear-words-spec : {M : Type 1} → statement M
-clear-words-spec =
+pub clear_words_spec : {M : Type 1} → statement M
+clear_words_spec =
     tie.close
     (tie.spec
     invariant_loop
     decreases_loop
-    loop-holds
-    mul_words
-    slice-write-words
-    add-i
-    loop-less
-    loop-again
-    same_length
+    loop-i-init
+    offset_bounds-words-i
+    bounds-words-i
+    overflow_add-i
+    loop-i-smaller
+    loop-i-preserved
+    shape_of-words
     returns)

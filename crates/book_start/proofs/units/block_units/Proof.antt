@@ -6,18 +6,18 @@ use Rattle.scripthash_free.proofs.LawsBlock.{bytes_fit}
 use Rattle.book_start.proofs.units.block_units.Statement.{statement}
 use Rattle.book_start.proofs.units.block_units.Tie as tie
 
-slab-bytes-requires : tie.Need-slab-bytes-requires
-slab-bytes-requires c κs = search rules
+slab_bytes-requires : tie.Need-slab_bytes-requires
+slab_bytes-requires c κs = search rules
 
 returns : tie.Need-returns
 returns c =
     let t = c.before in
-    let size = c.slab-bytes.ensures ∙ bytes_fit t.args.class t.requires in
+    let size = c.slab_bytes.ensures ∙ bytes_fit t.args.class t.requires in
     omega arith
 
-pub block-units-spec : {M : Type 1} → statement M
-block-units-spec =
+pub block_units_spec : {M : Type 1} → statement M
+block_units_spec =
     tie.close
     (tie.spec
-    slab-bytes-requires
+    slab_bytes-requires
     returns)

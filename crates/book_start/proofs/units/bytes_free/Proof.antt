@@ -16,53 +16,53 @@ record CheckingBytes (work : List ℕ) (from count end i : ℕ) : Type 0 where
   -- Whether those left are free tells it of all.
   gives : all_free (part work i (end - i)) ≡ all_free (part work from count)
 
-abbrev invariant_loop : tie.invariant_loop
+abbrev invariant_loop : tie.invariant-loop-i
 invariant_loop work from count end i₀ i = CheckingBytes work from count end i
 
-abbrev decreases_loop : tie.decreases_loop
+abbrev decreases_loop : tie.decreases-loop-i
 decreases_loop work from count end i₀ i = end - i
 
-add-end : tie.Need-overflow-add-end invariant_loop decreases_loop
-add-end c = omega arith
+overflow_add-end : tie.Need-overflow_add-end invariant_loop decreases_loop
+overflow_add-end c = omega arith
 
-loop-holds : tie.Need-loop-init invariant_loop decreases_loop
-loop-holds c =
+loop-i-init : tie.Need-loop-i-init invariant_loop decreases_loop
+loop-i-init c =
     let all : c.args.from + c.args.count - c.args.from ≡ c.args.count = omega arith in
     record { to_end = omega arith; gives = rw all }
 
-shared-slice-read-if1 : tie.Need-shared-slice-read-if1 invariant_loop decreases_loop
-shared-slice-read-if1 c = omega arith
+bounds-work-i : tie.Need-bounds-work-i invariant_loop decreases_loop
+bounds-work-i c = omega arith
 
-returns : tie.Need-returns invariant_loop decreases_loop
-returns c =
-    let l = c.before.before.before.loop in
+returns-then-work-i-ne0 : tie.Need-returns-then-work-i-ne0 invariant_loop decreases_loop
+returns-then-work-i-ne0 c =
+    let l = c.before.before.before.loop-i in
     sym (free_taken _ l.i _ (omega arith) (omega arith) (λ z. omega arith)) ∙ l.invariant.gives
 
-add-i : tie.Need-overflow-add-i invariant_loop decreases_loop
-add-i c = omega arith
+overflow_add-i : tie.Need-overflow_add-i invariant_loop decreases_loop
+overflow_add-i c = omega arith
 
-loop-less : tie.Need-loop-smaller invariant_loop decreases_loop
-loop-less c = omega arith
+loop-i-smaller : tie.Need-loop-i-smaller invariant_loop decreases_loop
+loop-i-smaller c = omega arith
 
-loop-again : tie.Need-loop-preserved invariant_loop decreases_loop
-loop-again c =
-    let l = c.before.before.before.loop in
+loop-i-preserved : tie.Need-loop-i-preserved invariant_loop decreases_loop
+loop-i-preserved c =
+    let l = c.before.before.before.loop-i in
     record { to_end = omega arith; gives = free_turn _ l.i _ (omega arith) (omega arith) (omega arith) ∙ l.invariant.gives }
 
-returns-2 : tie.Need-returns-2 invariant_loop decreases_loop
-returns-2 c = let l = c.before.loop in sym (free_end _ l.i _ (omega arith)) ∙ l.invariant.gives
+returns : tie.Need-returns invariant_loop decreases_loop
+returns c = let l = c.before.loop-i in sym (free_end _ l.i _ (omega arith)) ∙ l.invariant.gives
 
-pub bytes-free-spec : {M : Type 1} → statement M
-bytes-free-spec =
+pub bytes_free_spec : {M : Type 1} → statement M
+bytes_free_spec =
     tie.close
     (tie.spec
     invariant_loop
     decreases_loop
-    add-end
-    loop-holds
-    shared-slice-read-if1
-    returns
-    add-i
-    loop-less
-    loop-again
-    returns-2)
+    overflow_add-end
+    loop-i-init
+    bounds-work-i
+    returns-then-work-i-ne0
+    overflow_add-i
+    loop-i-smaller
+    loop-i-preserved
+    returns)

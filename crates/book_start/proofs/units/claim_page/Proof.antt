@@ -46,36 +46,36 @@ module _ (t : tie.Start) where
   inside : off / 128 + 32 ≤ length work
   inside = omega (arith, t.pre.inside, t.pre.paged, units_long work)
 
-bytes-free-requires : tie.Need-bytes-free-requires
-bytes-free-requires c κs = inside c.before.before
+bytes_free-requires : tie.Need-bytes_free-requires
+bytes_free-requires c κs = inside c.before.before
 
-same_length : tie.Need-same-length
-same_length c = search rules
+shape_of-work-then-not-bytes_free : tie.Need-shape_of-work-then-not-bytes_free
+shape_of-work-then-not-bytes_free c = search rules
+
+returns-then-not-bytes_free : tie.Need-returns-then-not-bytes_free
+returns-then-not-bytes_free c =
+    let t = c.before.before.before.before in
+    let free = sym (page_free (off t) (work t) (at_byte t)) ∙ sym c.before.bytes_free.ensures ∙ not-true _ c.if-not-bytes_free.true in
+    record { free = sym free; list = sym (claim_kept (block page_class (off t)) (units_of (work t)) free) }
+
+fill_bytes-requires : tie.Need-fill_bytes-requires
+fill_bytes-requires c κs = inside c.before.before.before.before.before
+
+shape_of-work : tie.Need-shape_of-work
+shape_of-work c = search rules
 
 returns : tie.Need-returns
 returns c =
-    let t = c.before.before.before.before in
-    let free = sym (page_free (off t) (work t) (at_byte t)) ∙ sym c.before.bytes_free.ensures ∙ not-true _ c.if1.true in
-    record { free = sym free; list = sym (claim_kept (block page_class (off t)) (units_of (work t)) free) }
-
-fill-bytes-requires : tie.Need-fill-bytes-requires
-fill-bytes-requires c κs = inside c.before.before.before.before.before
-
-same-length-2 : tie.Need-same-length-2
-same-length-2 c = search rules
-
-returns-2 : tie.Need-returns-2
-returns-2 c =
     let e = c.before.before.before.before in
     let t = e.before.before.before.before in
-    let free = sym (page_free (off t) (work t) (at_byte t)) ∙ sym e.before.bytes_free.ensures ∙ not-false _ e.if1.false in
+    let free = sym (page_free (off t) (work t) (at_byte t)) ∙ sym e.before.bytes_free.ensures ∙ not-false _ e.if-not-bytes_free.false in
     record {
       free = sym free;
-      list = page_marked (off t) (work t) _ (at_byte t) c.before.before.fill-bytes.ensures
+      list = page_marked (off t) (work t) _ (at_byte t) c.before.before.fill_bytes.ensures
           ∙ sym (claim_marks (block page_class (off t)) (units_of (work t)) free);
     }
 
-pub claim-page-spec : {M : Type 1} → statement M
-claim-page-spec =
+pub claim_page_spec : {M : Type 1} → statement M
+claim_page_spec =
     tie.close
-    (tie.spec bytes-free-requires same_length returns fill-bytes-requires same-length-2 returns-2)
+    (tie.spec bytes_free-requires shape_of-work-then-not-bytes_free returns-then-not-bytes_free fill_bytes-requires shape_of-work returns)

@@ -16,14 +16,14 @@ use Rattle.book_start.proofs.units.claim_units.Statement.{statement}
 use Rattle.book_start.proofs.units.claim_units.Tie as tie
 
 -- the block's bytes
-module _ (c : tie.After-slab-bytes) where
+module _ (c : tie.After-slab_bytes) where
   abbrev at : tie.Start
   at = c.before.before
 
-  size : c.slab-bytes.result ≡ slab_bytes at.args.class
-  size = c.slab-bytes.ensures ∙ bytes_fit at.args.class at.pre.class_to_8
+  size : c.slab_bytes.result ≡ slab_bytes at.args.class
+  size = c.slab_bytes.ensures ∙ bytes_fit at.args.class at.pre.class_to_8
 
-  inside : UnitsIn (at.args.off / 16) (c.slab-bytes.result / 16) at.args.work.now
+  inside : UnitsIn (at.args.off / 16) (c.slab_bytes.result / 16) at.args.work.now
   inside =
       let e = size in
       let p = at.pre.inside in
@@ -32,54 +32,54 @@ module _ (c : tie.After-slab-bytes) where
       record { inside = omega arith; few = omega arith }
 
 -- whether its units are free
-module _ (c : tie.After-units-free) where
-  abbrev got : tie.After-slab-bytes
+module _ (c : tie.After-units_free) where
+  abbrev got : tie.After-slab_bytes
   got = c.before.before
 
-  told : c.units-free.result ≡ units_free (block (at got).args.class (at got).args.off) (units_of (at got).args.work.now)
-  told = c.units-free.ensures ∙ units_by (at got).args.class (at got).args.off _ (size got) (units_of (at got).args.work.now)
+  told : c.units_free.result ≡ units_free (block (at got).args.class (at got).args.off) (units_of (at got).args.work.now)
+  told = c.units_free.ensures ∙ units_by (at got).args.class (at got).args.off _ (size got) (units_of (at got).args.work.now)
 
-slab-bytes-requires : tie.Need-slab-bytes-requires
-slab-bytes-requires c κs = search rules
+slab_bytes-requires : tie.Need-slab_bytes-requires
+slab_bytes-requires c κs = search rules
 
-units-free-requires : tie.Need-units-free-requires
-units-free-requires c κs = inside c.before
+units_free-requires : tie.Need-units_free-requires
+units_free-requires c κs = inside c.before
 
-same_length : tie.Need-same-length
-same_length c = search rules
+shape_of-work-then-not-units_free : tie.Need-shape_of-work-then-not-units_free
+shape_of-work-then-not-units_free c = search rules
+
+returns-then-not-units_free : tie.Need-returns-then-not-units_free
+returns-then-not-units_free c =
+    let t = at (got c.before) in
+    let free = sym (told c.before) ∙ not-true _ c.if-not-units_free.true in
+    record { free = sym free; list = sym (claim_kept (block t.args.class t.args.off) (units_of t.args.work.now) free) }
+
+mark_units-requires : tie.Need-mark_units-requires
+mark_units-requires c κs = inside (got c.before.before)
+
+shape_of-work : tie.Need-shape_of-work
+shape_of-work c = search rules
 
 returns : tie.Need-returns
 returns c =
-    let t = at (got c.before) in
-    let free = sym (told c.before) ∙ not-true _ c.if1.true in
-    record { free = sym free; list = sym (claim_kept (block t.args.class t.args.off) (units_of t.args.work.now) free) }
-
-mark-units-requires : tie.Need-mark-units-requires
-mark-units-requires c κs = inside (got c.before.before)
-
-same-length-2 : tie.Need-same-length-2
-same-length-2 c = search rules
-
-returns-2 : tie.Need-returns-2
-returns-2 c =
     let e = c.before.before.before.before in
     let t = at (got e.before) in
-    let free = sym (told e.before) ∙ not-false _ e.if1.false in
+    let free = sym (told e.before) ∙ not-false _ e.if-not-units_free.false in
     record {
       free = sym free;
-      list = c.before.before.mark-units.ensures
+      list = c.before.before.mark_units.ensures
           ∙ mark_by t.args.class t.args.off _ (size (got e.before)) (units_of t.args.work.now)
           ∙ sym (claim_marks (block t.args.class t.args.off) (units_of t.args.work.now) free);
     }
 
-pub claim-units-spec : {M : Type 1} → statement M
-claim-units-spec =
+pub claim_units_spec : {M : Type 1} → statement M
+claim_units_spec =
     tie.close
     (tie.spec
-    slab-bytes-requires
-    units-free-requires
-    same_length
-    returns
-    mark-units-requires
-    same-length-2
-    returns-2)
+    slab_bytes-requires
+    units_free-requires
+    shape_of-work-then-not-units_free
+    returns-then-not-units_free
+    mark_units-requires
+    shape_of-work
+    returns)

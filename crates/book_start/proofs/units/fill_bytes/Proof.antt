@@ -19,55 +19,55 @@ record FillingBytes (work₀ : List ℕ) (from count value end : ℕ) (work : Li
   -- Those left, given the value, make the whole.
   gives : overwrite work i (replicate (end - i) value) ≡ overwrite work₀ from (replicate count value)
 
-abbrev invariant_loop : tie.invariant_loop
+abbrev invariant_loop : tie.invariant-loop-i
 invariant_loop work₀ from count value end i₀ work i = FillingBytes work₀ from count value end work i
 
-abbrev decreases_loop : tie.decreases_loop
+abbrev decreases_loop : tie.decreases-loop-i
 decreases_loop work₀ from count value end i₀ work i = end - i
 
-add-end : tie.Need-overflow-add-end invariant_loop decreases_loop
-add-end c = omega arith
+overflow_add-end : tie.Need-overflow_add-end invariant_loop decreases_loop
+overflow_add-end c = omega arith
 
-loop-holds : tie.Need-loop-init invariant_loop decreases_loop
-loop-holds c =
+loop-i-init : tie.Need-loop-i-init invariant_loop decreases_loop
+loop-i-init c =
     let all : c.args.from + c.args.count - c.args.from ≡ c.args.count = omega arith in
     record { same = refl; to_end = omega arith; gives = rw all }
 
-slice-write-work : tie.Need-slice-write-work invariant_loop decreases_loop
-slice-write-work c = omega arith
+bounds-work-i : tie.Need-bounds-work-i invariant_loop decreases_loop
+bounds-work-i c = omega arith
 
-add-i : tie.Need-overflow-add-i invariant_loop decreases_loop
-add-i c = omega arith
+overflow_add-i : tie.Need-overflow_add-i invariant_loop decreases_loop
+overflow_add-i c = omega arith
 
-loop-less : tie.Need-loop-smaller invariant_loop decreases_loop
-loop-less c = omega arith
+loop-i-smaller : tie.Need-loop-i-smaller invariant_loop decreases_loop
+loop-i-smaller c = omega arith
 
-loop-again : tie.Need-loop-preserved invariant_loop decreases_loop
-loop-again c =
-    let l = c.before.loop in
+loop-i-preserved : tie.Need-loop-i-preserved invariant_loop decreases_loop
+loop-i-preserved c =
+    let l = c.before.loop-i in
     record {
       same = simp length-set l.invariant.same;
       to_end = omega arith;
       gives = fill_turn l.work l.i _ (omega arith) (omega arith) _ ∙ l.invariant.gives;
     }
 
-same_length : tie.Need-same-length invariant_loop decreases_loop
-same_length c = search rules
+shape_of-work : tie.Need-shape_of-work invariant_loop decreases_loop
+shape_of-work c = search rules
 
 returns : tie.Need-returns invariant_loop decreases_loop
-returns c = let l = c.before.loop in sym (fill_end l.work l.i _ _ (omega arith)) ∙ l.invariant.gives
+returns c = let l = c.before.loop-i in sym (fill_end l.work l.i _ _ (omega arith)) ∙ l.invariant.gives
 
-pub fill-bytes-spec : {M : Type 1} → statement M
-fill-bytes-spec =
+pub fill_bytes_spec : {M : Type 1} → statement M
+fill_bytes_spec =
     tie.close
     (tie.spec
     invariant_loop
     decreases_loop
-    add-end
-    loop-holds
-    slice-write-work
-    add-i
-    loop-less
-    loop-again
-    same_length
+    overflow_add-end
+    loop-i-init
+    bounds-work-i
+    overflow_add-i
+    loop-i-smaller
+    loop-i-preserved
+    shape_of-work
     returns)

@@ -20,64 +20,64 @@ record MarkingUnits (work₀ : List ℕ) (from count end : ℕ) (work : List ℕ
   -- Those left, marked, make the whole.
   gives : overwrite (units_of work) i (replicate (end - i) 1) ≡ overwrite (units_of work₀) from (replicate count 1)
 
-abbrev invariant_loop : tie.invariant_loop
+abbrev invariant_loop : tie.invariant-loop-i
 invariant_loop work₀ from count end i₀ work i = MarkingUnits work₀ from count end work i
 
-abbrev decreases_loop : tie.decreases_loop
+abbrev decreases_loop : tie.decreases-loop-i
 decreases_loop work₀ from count end i₀ work i = end - i
 
-add-end : tie.Need-overflow-add-end invariant_loop decreases_loop
-add-end c = omega arith
+overflow_add-end : tie.Need-overflow_add-end invariant_loop decreases_loop
+overflow_add-end c = omega arith
 
-loop-holds : tie.Need-loop-init invariant_loop decreases_loop
-loop-holds c =
+loop-i-init : tie.Need-loop-i-init invariant_loop decreases_loop
+loop-i-init c =
     let a = c.before.args in
     let all : a.from + a.count - a.from ≡ a.count = omega arith in
     record { same = refl; to_end = omega arith; gives = rw all }
 
-slice-read-with-bit : tie.Need-slice-read-with-bit invariant_loop decreases_loop
-slice-read-with-bit c = omega arith
+bounds-work-at : tie.Need-bounds-work-at invariant_loop decreases_loop
+bounds-work-at c = omega arith
 
-with-bit-requires : tie.Need-with-bit-requires invariant_loop decreases_loop
-with-bit-requires c κs = omega arith
+with_bit-requires : tie.Need-with_bit-requires invariant_loop decreases_loop
+with_bit-requires c κs = omega arith
 
-slice-write-work : tie.Need-slice-write-work invariant_loop decreases_loop
-slice-write-work c = omega arith
+bounds-work-at-in-loop-i : tie.Need-bounds-work-at-in-loop-i invariant_loop decreases_loop
+bounds-work-at-in-loop-i c = omega arith
 
-add-i : tie.Need-overflow-add-i invariant_loop decreases_loop
-add-i c = omega arith
+overflow_add-i : tie.Need-overflow_add-i invariant_loop decreases_loop
+overflow_add-i c = omega arith
 
-loop-less : tie.Need-loop-smaller invariant_loop decreases_loop
-loop-less c = omega arith
+loop-i-smaller : tie.Need-loop-i-smaller invariant_loop decreases_loop
+loop-i-smaller c = omega arith
 
-loop-again : tie.Need-loop-preserved invariant_loop decreases_loop
-loop-again c =
-    let l = c.before.before.before.loop in
+loop-i-preserved : tie.Need-loop-i-preserved invariant_loop decreases_loop
+loop-i-preserved c =
+    let l = c.before.before.before.loop-i in
     record {
       same = simp length-set l.invariant.same;
       to_end = omega arith;
-      gives = mark_turn l.work l.i _ c.with-bit.result (omega arith) (omega arith) c.with-bit.ensures ∙ l.invariant.gives;
+      gives = mark_turn l.work l.i _ c.with_bit.result (omega arith) (omega arith) c.with_bit.ensures ∙ l.invariant.gives;
     }
 
-same_length : tie.Need-same-length invariant_loop decreases_loop
-same_length c = search rules
+shape_of-work : tie.Need-shape_of-work invariant_loop decreases_loop
+shape_of-work c = search rules
 
 returns : tie.Need-returns invariant_loop decreases_loop
-returns c = let l = c.before.loop in sym (fill_end (units_of l.work) l.i _ _ (omega arith)) ∙ l.invariant.gives
+returns c = let l = c.before.loop-i in sym (fill_end (units_of l.work) l.i _ _ (omega arith)) ∙ l.invariant.gives
 
-pub mark-units-spec : {M : Type 1} → statement M
-mark-units-spec =
+pub mark_units_spec : {M : Type 1} → statement M
+mark_units_spec =
     tie.close
     (tie.spec
     invariant_loop
     decreases_loop
-    add-end
-    loop-holds
-    slice-read-with-bit
-    with-bit-requires
-    slice-write-work
-    add-i
-    loop-less
-    loop-again
-    same_length
+    overflow_add-end
+    loop-i-init
+    bounds-work-at
+    with_bit-requires
+    bounds-work-at-in-loop-i
+    overflow_add-i
+    loop-i-smaller
+    loop-i-preserved
+    shape_of-work
     returns)

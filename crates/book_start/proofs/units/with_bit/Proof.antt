@@ -6,33 +6,33 @@ use Rattle.book_start.proofs.LawsBits.{bit_set, bit_stays, bit_fits, weight_is}
 use Rattle.book_start.proofs.units.with_bit.Statement.{statement}
 use Rattle.book_start.proofs.units.with_bit.Tie as tie
 
-cast-if1 : tie.Need-overflow-cast-if1
-cast-if1 c = search rules
+overflow_cast-bit : tie.Need-overflow_cast-bit
+overflow_cast-bit c = search rules
 
-shr-if1 : tie.Need-overflow-shr-if1
-shr-if1 c = search rules
+overflow_shr-w : tie.Need-overflow_shr-w
+overflow_shr-w c = search rules
 
-returns : tie.Need-returns
-returns c = let a = c.before.args in bit_stays a.w a.bit (omega arith) (omega arith) c.if1.true
+returns-then-w-bit-ne0 : tie.Need-returns-then-w-bit-ne0
+returns-then-w-bit-ne0 c = let a = c.before.args in bit_stays a.w a.bit (omega arith) (omega arith) c.if-w-bit-ne0.true
 
-cast-result : tie.Need-overflow-cast-result
-cast-result c = search rules
+overflow_cast-result : tie.Need-overflow_cast-result
+overflow_cast-result c = search rules
 
-shl-result : tie.Need-overflow-shl-result
-shl-result c = search rules
+overflow_shl-result : tie.Need-overflow_shl-result
+overflow_shl-result c = search rules
 
-add-result : tie.Need-overflow-add-result
-add-result c =
+overflow_add-result : tie.Need-overflow_add-result
+overflow_add-result c =
     let a = c.before.args in
-    let fits = bit_fits a.w a.bit (omega arith) (omega arith) c.if1.false in
+    let fits = bit_fits a.w a.bit (omega arith) (omega arith) c.if-w-bit-ne0.false in
     let weight = weight_is a.bit (omega arith) in
     omega arith
 
-returns-2 : tie.Need-returns-2
-returns-2 c =
+returns : tie.Need-returns
+returns c =
     let a = c.before.args in
-    rw (weight_is a.bit (omega arith)) (bit_set a.w a.bit (omega arith) (omega arith) c.if1.false)
+    rw (weight_is a.bit (omega arith)) (bit_set a.w a.bit (omega arith) (omega arith) c.if-w-bit-ne0.false)
 
-pub with-bit-spec : {M : Type 1} → statement M
-with-bit-spec =
-    tie.close (tie.spec cast-if1 shr-if1 returns cast-result shl-result add-result returns-2)
+pub with_bit_spec : {M : Type 1} → statement M
+with_bit_spec =
+    tie.close (tie.spec overflow_cast-bit overflow_shr-w returns-then-w-bit-ne0 overflow_cast-result overflow_shl-result overflow_add-result returns)

@@ -6,29 +6,29 @@ use borrow.Author.Rules.{rules}
 use Rattle.buffer.proofs.fields.get_u16.Statement.{statement}
 use Rattle.buffer.proofs.fields.get_u16.Tie as tie
 
-shared-slice-read-u16-of : tie.Need-shared-slice-read-u16-of
-shared-slice-read-u16-of c = search rules
+bounds-b-at : tie.Need-bounds-b-at
+bounds-b-at c = search rules
 
-add-u16-of : tie.Need-overflow-add-u16-of
-add-u16-of c = search rules
+overflow_add-at : tie.Need-overflow_add-at
+overflow_add-at c = search rules
 
-shared-slice-read-u16-of-2 : tie.Need-shared-slice-read-u16-of-2
-shared-slice-read-u16-of-2 c = search rules
+bounds-b-at-2 : tie.Need-bounds-b-at-2
+bounds-b-at-2 c = search rules
 
-u16-of-requires : tie.Need-u16-of-requires
-u16-of-requires c κs = search rules
+u16_of-requires : tie.Need-u16_of-requires
+u16_of-requires c κs = search rules
 
 returns : tie.Need-returns
 returns c =
     let a = c.before.before.before.before.args in
-    c.u16-of.ensures ∙ ap little_endian (sym (part_listed 2 a.b.now a.at (search rules)))
+    c.u16_of.ensures ∙ ap little_endian (sym (part_listed 2 a.b.now a.at (search rules)))
 
-pub get-u16-spec : {M : Type 1} → statement M
-get-u16-spec =
+pub get_u16_spec : {M : Type 1} → statement M
+get_u16_spec =
     tie.close
     (tie.spec
-    shared-slice-read-u16-of
-    add-u16-of
-    shared-slice-read-u16-of-2
-    u16-of-requires
+    bounds-b-at
+    overflow_add-at
+    bounds-b-at-2
+    u16_of-requires
     returns)

@@ -9,42 +9,42 @@ use borrow.Author.Rules.{rules}
 use Rattle.buffer.proofs.fields.get_u40.Statement.{statement}
 use Rattle.buffer.proofs.fields.get_u40.Tie as tie
 
-get-u32-requires : tie.Need-get-u32-requires
-get-u32-requires c κs = search rules
+get_u32-requires : tie.Need-get_u32-requires
+get_u32-requires c κs = search rules
 
-cast-result : tie.Need-overflow-cast-result
-cast-result c = search rules
+overflow_cast-result : tie.Need-overflow_cast-result
+overflow_cast-result c = search rules
 
-add_wide : tie.Need-overflow-add-wide
-add_wide c = search rules
+overflow_add-at : tie.Need-overflow_add-at
+overflow_add-at c = search rules
 
-shared-slice-read-wide : tie.Need-shared-slice-read-wide
-shared-slice-read-wide c = search rules
+bounds-b-at : tie.Need-bounds-b-at
+bounds-b-at c = search rules
 
 wide-requires : tie.Need-wide-requires
 wide-requires c κs = search rules
 
-mul-result : tie.Need-overflow-mul-result
-mul-result c = omega (arith, c.wide.ensures, c.before.shared-slice-known2.given (c.before.before.before.before.args.at + 4))
+overflow_mul-result : tie.Need-overflow_mul-result
+overflow_mul-result c = omega (arith, c.wide.ensures, c.before.shared_slice_known-2-1.given (c.before.before.before.before.args.at + 4))
 
-add-result : tie.Need-overflow-add-result
-add-result c = omega (arith, c.wide.ensures, c.before.shared-slice-known2.given (c.before.before.before.before.args.at + 4))
+overflow_add-result : tie.Need-overflow_add-result
+overflow_add-result c = omega (arith, c.wide.ensures, c.before.shared_slice_known-2-1.given (c.before.before.before.before.args.at + 4))
 
 returns : tie.Need-returns
 returns c =
     let a = c.before.before.before.before.args in
     let last = ap little_endian (part_listed 1 a.b.now (a.at + 4) (search rules)) in
-    omega (arith, little_endian_halves a.b.now a.at 4 1 (search rules), last, c.before.before.get-u32.ensures, c.wide.ensures)
+    omega (arith, little_endian_halves a.b.now a.at 4 1 (search rules), last, c.before.before.get_u32.ensures, c.wide.ensures)
 
-pub get-u40-spec : {M : Type 1} → statement M
-get-u40-spec =
+pub get_u40_spec : {M : Type 1} → statement M
+get_u40_spec =
     tie.close
     (tie.spec
-    get-u32-requires
-    cast-result
-    add_wide
-    shared-slice-read-wide
+    get_u32-requires
+    overflow_cast-result
+    overflow_add-at
+    bounds-b-at
     wide-requires
-    mul-result
-    add-result
+    overflow_mul-result
+    overflow_add-result
     returns)

@@ -5,41 +5,41 @@ use borrow.Author.Rules.{rules}
 use Rattle.buffer.proofs.fields.get_u64.Statement.{statement}
 use Rattle.buffer.proofs.fields.get_u64.Tie as tie
 
-get-u32-requires : tie.Need-get-u32-requires
-get-u32-requires c κs = search rules
+get_u32-requires : tie.Need-get_u32-requires
+get_u32-requires c κs = search rules
 
-cast-result : tie.Need-overflow-cast-result
-cast-result c = search rules
+overflow_cast-result : tie.Need-overflow_cast-result
+overflow_cast-result c = search rules
 
-add-get-u32 : tie.Need-overflow-add-get-u32
-add-get-u32 c = search rules
+overflow_add-at : tie.Need-overflow_add-at
+overflow_add-at c = search rules
 
-get-u32-requires-2 : tie.Need-get-u32-requires-2
-get-u32-requires-2 c κs = search rules
+get_u32-requires-2 : tie.Need-get_u32-requires-2
+get_u32-requires-2 c κs = search rules
 
-cast-result-2 : tie.Need-overflow-cast-result-2
-cast-result-2 c = search rules
+overflow_cast-result-2 : tie.Need-overflow_cast-result-2
+overflow_cast-result-2 c = search rules
 
-mul-result : tie.Need-overflow-mul-result
-mul-result c = search rules
+overflow_mul-result : tie.Need-overflow_mul-result
+overflow_mul-result c = search rules
 
-add-result : tie.Need-overflow-add-result
-add-result c = search rules
+overflow_add-result : tie.Need-overflow_add-result
+overflow_add-result c = search rules
 
 returns : tie.Need-returns
 returns c =
     let a = c.before.before.before.args in
-    omega (arith, little_endian_halves a.b.now a.at 4 4 (search rules), c.before.get-u32.ensures, c.get-u322.ensures)
+    omega (arith, little_endian_halves a.b.now a.at 4 4 (search rules), c.before.get_u32.ensures, c.get_u32-2.ensures)
 
-pub get-u64-spec : {M : Type 1} → statement M
-get-u64-spec =
+pub get_u64_spec : {M : Type 1} → statement M
+get_u64_spec =
     tie.close
     (tie.spec
-    get-u32-requires
-    cast-result
-    add-get-u32
-    get-u32-requires-2
-    cast-result-2
-    mul-result
-    add-result
+    get_u32-requires
+    overflow_cast-result
+    overflow_add-at
+    get_u32-requires-2
+    overflow_cast-result-2
+    overflow_mul-result
+    overflow_add-result
     returns)

@@ -12,23 +12,23 @@ use borrow.Author.Rules.{rules}
 use Rattle.buffer.proofs.fields.put_u40.Statement.{statement}
 use Rattle.buffer.proofs.fields.put_u40.Tie as tie
 
-cast-put-u32 : tie.Need-overflow-cast-put-u32
-cast-put-u32 c = search rules
+overflow_cast-n : tie.Need-overflow_cast-n
+overflow_cast-n c = search rules
 
-put-u32-requires : tie.Need-put-u32-requires
-put-u32-requires c κs = search rules
+put_u32-requires : tie.Need-put_u32-requires
+put_u32-requires c κs = search rules
 
-cast-b : tie.Need-overflow-cast-b
-cast-b c = search rules
+overflow_cast-b : tie.Need-overflow_cast-b
+overflow_cast-b c = search rules
 
-add-b : tie.Need-overflow-add-b
-add-b c = search rules
+overflow_add-b : tie.Need-overflow_add-b
+overflow_add-b c = search rules
 
-slice-write-b : tie.Need-slice-write-b
-slice-write-b c = search rules
+bounds-b-at : tie.Need-bounds-b-at
+bounds-b-at c = search rules
 
-same_length : tie.Need-same-length
-same_length c = search rules
+shape_of-b : tie.Need-shape_of-b
+shape_of-b c = search rules
 
 returns : tie.Need-returns
 returns c =
@@ -38,10 +38,10 @@ returns c =
     let last = a.n / 256 ^ 4 % 256 in
     let inside : a.at + 4 < length four =
     omega (arith, length_overwrite b a.at (bytes_of 4 (a.n % 256 ^ 4)) (omega arith)) in
-    ap (λ (l : List ℕ). set l (a.at + 4) last) c.before.before.put-u32.ensures
+    ap (λ (l : List ℕ). set l (a.at + 4) last) c.before.before.put_u32.ensures
     ∙ sym (overwrite_one four (a.at + 4) last inside) ∙ overwrite_halves b a.at 4 1 a.n (omega arith)
 
-pub put-u40-spec : {M : Type 1} → statement M
-put-u40-spec =
+pub put_u40_spec : {M : Type 1} → statement M
+put_u40_spec =
     tie.close
-    (tie.spec cast-put-u32 put-u32-requires cast-b add-b slice-write-b same_length returns)
+    (tie.spec overflow_cast-n put_u32-requires overflow_cast-b overflow_add-b bounds-b-at shape_of-b returns)

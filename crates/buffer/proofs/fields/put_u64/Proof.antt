@@ -9,40 +9,40 @@ use borrow.Author.Rules.{rules}
 use Rattle.buffer.proofs.fields.put_u64.Statement.{statement}
 use Rattle.buffer.proofs.fields.put_u64.Tie as tie
 
-cast-put-u32 : tie.Need-overflow-cast-put-u32
-cast-put-u32 c = search rules
+overflow_cast-n : tie.Need-overflow_cast-n
+overflow_cast-n c = search rules
 
-put-u32-requires : tie.Need-put-u32-requires
-put-u32-requires c κs = search rules
+put_u32-requires : tie.Need-put_u32-requires
+put_u32-requires c κs = search rules
 
-add-put-u32 : tie.Need-overflow-add-put-u32
-add-put-u32 c = search rules
+overflow_add-at : tie.Need-overflow_add-at
+overflow_add-at c = search rules
 
-cast-put-u32-2 : tie.Need-overflow-cast-put-u32-2
-cast-put-u32-2 c = search rules
+overflow_cast-n-2 : tie.Need-overflow_cast-n-2
+overflow_cast-n-2 c = search rules
 
-put-u32-requires-2 : tie.Need-put-u32-requires-2
-put-u32-requires-2 c κs = search rules
+put_u32-requires-2 : tie.Need-put_u32-requires-2
+put_u32-requires-2 c κs = search rules
 
-same_length : tie.Need-same-length
-same_length c = search rules
+shape_of-b : tie.Need-shape_of-b
+shape_of-b c = search rules
 
 returns : tie.Need-returns
 returns c =
     let a = c.before.before.before.before.before.before.before.before.before.args in
-    c.before.before.put-u322.ensures
+    c.before.before.put_u32-2.ensures
     ∙ ap (λ (l : List ℕ). overwrite l (a.at + 4) (bytes_of 4 (a.n / 4294967296)))
-    c.before.before.before.before.before.before.put-u32.ensures
+    c.before.before.before.before.before.before.put_u32.ensures
     ∙ overwrite_halves a.b.now a.at 4 4 a.n (search rules)
 
-pub put-u64-spec : {M : Type 1} → statement M
-put-u64-spec =
+pub put_u64_spec : {M : Type 1} → statement M
+put_u64_spec =
     tie.close
     (tie.spec
-    cast-put-u32
-    put-u32-requires
-    add-put-u32
-    cast-put-u32-2
-    put-u32-requires-2
-    same_length
+    overflow_cast-n
+    put_u32-requires
+    overflow_add-at
+    overflow_cast-n-2
+    put_u32-requires-2
+    shape_of-b
     returns)

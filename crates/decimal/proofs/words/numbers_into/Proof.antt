@@ -10,150 +10,150 @@ use Rattle.decimal.proofs.LawsWords.{words_end, words_next, taken_none, taken_wo
 use Rattle.decimal.proofs.words.numbers_into.Statement.{statement}
 use Rattle.decimal.proofs.words.numbers_into.Tie as tie
 
-abbrev invariant_loop : tie.invariant_loop
+abbrev invariant_loop : tie.invariant-loop-at
 invariant_loop line from list₀ at₀ count₀ list at count =
     (length list ≡ length list₀) × (at ≤ length line) × (count ≤ at)
     × (take_words line list count (words_from line at) ≡ take_words line list₀ 0 (words_from line from))
 
-abbrev decreases_loop : tie.decreases_loop
+abbrev decreases_loop : tie.decreases-loop-at
 decreases_loop line from list₀ at₀ count₀ list at count = length line - at
 
-loop-holds : tie.Need-loop-init invariant_loop decreases_loop
-loop-holds c = (refl, omega arith, omega arith, refl)
+loop-at-init : tie.Need-loop-at-init invariant_loop decreases_loop
+loop-at-init c = (refl, omega arith, omega arith, refl)
 
-skip-spaces-requires : tie.Need-skip-spaces-requires invariant_loop decreases_loop
-skip-spaces-requires c κs = search rules
+skip_spaces-start-requires : tie.Need-skip_spaces-start-requires invariant_loop decreases_loop
+skip_spaces-start-requires c κs = search rules
 
-same_length : tie.Need-same-length invariant_loop decreases_loop
-same_length c = search rules
+shape_of-list-then-start-line : tie.Need-shape_of-list-then-start-line invariant_loop decreases_loop
+shape_of-list-then-start-line c = search rules
 
-returns : tie.Need-returns invariant_loop decreases_loop
-returns c =
+returns-then-start-line : tie.Need-returns-then-start-line invariant_loop decreases_loop
+returns-then-start-line c =
     let l = c.before.before.before in
     let a = l.before.before.before.args in
-    let s = c.before.skip-spaces.ensures in
-    let none_left = s.same ∙ words_end a.line.now c.before.skip-spaces.result (omega (arith, c.if1.true)) in
-    taken_none _ a.line.now l.loop.list l.loop.count _ none_left l.loop.invariant.3
+    let s = c.before.skip_spaces-start.ensures in
+    let none_left = s.same ∙ words_end a.line.now c.before.skip_spaces-start.result (omega (arith, c.if-start-line.true)) in
+    taken_none _ a.line.now l.loop-at.list l.loop-at.count _ none_left l.loop-at.invariant.3
 
-word-end-requires : tie.Need-word-end-requires invariant_loop decreases_loop
-word-end-requires c κs = search rules
+word_end-end-requires : tie.Need-word_end-end-requires invariant_loop decreases_loop
+word_end-end-requires c κs = search rules
 
-sub-put-word : tie.Need-overflow-sub-put-word invariant_loop decreases_loop
-sub-put-word c = search rules
+slice_bounds-put_word-count : tie.Need-slice_bounds-put_word-count invariant_loop decreases_loop
+slice_bounds-put_word-count c = search rules
 
-part-put-word-start : tie.Need-slice-bounds-put-word-start invariant_loop decreases_loop
-part-put-word-start c = search rules
+slice_bounds-put_word-start : tie.Need-slice_bounds-put_word-start invariant_loop decreases_loop
+slice_bounds-put_word-start c = search rules
 
-part-put-word-end : tie.Need-slice-bounds-put-word-end invariant_loop decreases_loop
-part-put-word-end c = search rules
+slice_bounds-put_word-end : tie.Need-slice_bounds-put_word-end invariant_loop decreases_loop
+slice_bounds-put_word-end c = search rules
 
-put-word-requires : tie.Need-put-word-requires invariant_loop decreases_loop
-put-word-requires c κs = search rules
+put_word-put-requires : tie.Need-put_word-put-requires invariant_loop decreases_loop
+put_word-put-requires c κs = search rules
 
-enum-known-put : tie.Need-enum-known-put invariant_loop decreases_loop
-enum-known-put c = search rules
+enum_known-put : tie.Need-enum_known-put invariant_loop decreases_loop
+enum_known-put c = search rules
 
 -- what is left to take after a word
-module _ (p : tie.After-put-word invariant_loop decreases_loop) where
-  abbrev ended : tie.After-word-end invariant_loop decreases_loop
+module _ (p : tie.After-put_word-put invariant_loop decreases_loop) where
+  abbrev ended : tie.After-word_end-end invariant_loop decreases_loop
   ended = p.before.before.before
 
-  abbrev begun : tie.After-skip-spaces invariant_loop decreases_loop
+  abbrev begun : tie.After-skip_spaces-start invariant_loop decreases_loop
   begun = ended.before.before
 
-  abbrev here : tie.At-loop invariant_loop decreases_loop
+  abbrev here : tie.At-loop-at invariant_loop decreases_loop
   here = begun.before.before
 
   abbrev line : List ℕ
   line = here.before.before.before.args.line.now
 
-  next : words_from line here.loop.at
-      ≡ word_at begun.skip-spaces.result ended.word_end.result ∷ words_from line ended.word_end.result
+  next : words_from line here.loop-at.at
+      ≡ word_at begun.skip_spaces-start.result ended.word_end-end.result ∷ words_from line ended.word_end-end.result
   next =
-      words_next line here.loop.at begun.skip-spaces.result ended.word_end.result begun.skip-spaces.ensures
-      (omega (arith, begun.skip-spaces.ensures.inside, ended.before.if1.left)) ended.word_end.ensures
+      words_next line here.loop-at.at begun.skip_spaces-start.result ended.word_end-end.result begun.skip_spaces-start.ensures
+      (omega (arith, begun.skip_spaces-start.ensures.inside, ended.before.if-start-line.left)) ended.word_end-end.ensures
 
-same-length-2 : tie.Need-same-length-2 invariant_loop decreases_loop
-same-length-2 c = search rules
+shape_of-list-in-Stopped : tie.Need-shape_of-list-in-Stopped invariant_loop decreases_loop
+shape_of-list-in-Stopped c = search rules
 
-returns-2 : tie.Need-returns-2 invariant_loop decreases_loop
-returns-2 c =
+returns-in-Stopped : tie.Need-returns-in-Stopped invariant_loop decreases_loop
+returns-in-Stopped c =
     let p = c.before.before.before.before.before in
     let l = here p in
-    stopped _ _ _ _ _ c.before.put.given.1
-    (taken_word _ (line p) l.loop.list _ l.loop.count (begun p).skip-spaces.result (ended p).word_end.result _ _ _ (next p)
-    l.loop.inv.3 p.put_word.ensures.0)
+    stopped _ _ _ _ _ c.before.put-1.given.1
+    (taken_word _ (line p) l.loop-at.list _ l.loop-at.count (begun p).skip_spaces-start.result (ended p).word_end-end.result _ _ _ (next p)
+    l.loop-at.invariant.3 p.put_word-put.ensures.0)
 
-enum_told : tie.Need-enum-told invariant_loop decreases_loop
-enum_told c = search rules
+enum_told-1 : tie.Need-enum_told-1 invariant_loop decreases_loop
+enum_told-1 c = search rules
 
-add-count : tie.Need-overflow-add-count invariant_loop decreases_loop
-add-count c =
+overflow_add-count : tie.Need-overflow_add-count invariant_loop decreases_loop
+overflow_add-count c =
     let p = c.before.before.before.before in
     omega (
       arith,
-      (here p).loop.invariant,
-      (begun p).skip-spaces.ensures.after,
-      (ended p).word_end.ensures.after,
-      (ended p).word_end.ensures.inside,
+      (here p).loop-at.invariant,
+      (begun p).skip_spaces-start.ensures.after,
+      (ended p).word_end-end.ensures.after,
+      (ended p).word_end-end.ensures.inside,
     )
 
-loop-less : tie.Need-loop-smaller invariant_loop decreases_loop
-loop-less c =
+loop-at-smaller : tie.Need-loop-at-smaller invariant_loop decreases_loop
+loop-at-smaller c =
     let p = c.before.before.before.before in
     omega (
       arith,
-      (here p).loop.invariant,
-      (begun p).skip-spaces.ensures.after,
-      (ended p).word_end.ensures.after,
-      (ended p).word_end.ensures.inside,
+      (here p).loop-at.invariant,
+      (begun p).skip_spaces-start.ensures.after,
+      (ended p).word_end-end.ensures.after,
+      (ended p).word_end-end.ensures.inside,
     )
 
-loop-again : tie.Need-loop-preserved invariant_loop decreases_loop
-loop-again c =
+loop-at-preserved : tie.Need-loop-at-preserved invariant_loop decreases_loop
+loop-at-preserved c =
     let p = c.before.before.before.before in
     let l = here p in (
-      p.put_word.ensures.1 ∙ l.loop.inv.0,
-      (ended p).word_end.ensures.inside,
-      omega (arith, l.loop.inv, (begun p).skip-spaces.ensures.after, (ended p).word_end.ensures.after),
-      went_on _ _ _ _ c.enum_told.given.1
-          (taken_word _ (line p) l.loop.list _ l.loop.count (begun p).skip-spaces.result (ended p).word_end.result _ _ _
+      p.put_word-put.ensures.1 ∙ l.loop-at.invariant.0,
+      (ended p).word_end-end.ensures.inside,
+      omega (arith, l.loop-at.invariant, (begun p).skip_spaces-start.ensures.after, (ended p).word_end-end.ensures.after),
+      went_on _ _ _ _ c.enum_told-1.given.1
+          (taken_word _ (line p) l.loop-at.list _ l.loop-at.count (begun p).skip_spaces-start.result (ended p).word_end-end.result _ _ _
           (next p)
-          l.loop.inv.3 p.put_word.ensures.0),
+          l.loop-at.invariant.3 p.put_word-put.ensures.0),
     )
 
-same-length-3 : tie.Need-same-length-3 invariant_loop decreases_loop
-same-length-3 c = search rules
+shape_of-list : tie.Need-shape_of-list invariant_loop decreases_loop
+shape_of-list c = search rules
 
-returns-3 : tie.Need-returns-3 invariant_loop decreases_loop
-returns-3 c =
+returns : tie.Need-returns invariant_loop decreases_loop
+returns c =
     let l = c.before in
     let a = l.before.before.before.args in
-    taken_none _ a.line.now l.loop.list l.loop.count _
-    (words_end a.line.now l.loop.at (omega (arith, c.loop-test.false)))
-    l.loop.invariant.3
+    taken_none _ a.line.now l.loop-at.list l.loop-at.count _
+    (words_end a.line.now l.loop-at.at (omega (arith, c.loop-at-test.false)))
+    l.loop-at.invariant.3
 
-pub numbers-into-spec : {M : Type 1} → statement M
-numbers-into-spec =
+pub numbers_into_spec : {M : Type 1} → statement M
+numbers_into_spec =
     tie.close
     (tie.spec
     invariant_loop
     decreases_loop
-    loop-holds
-    skip-spaces-requires
-    same_length
-    returns
-    word-end-requires
-    sub-put-word
-    part-put-word-start
-    part-put-word-end
-    put-word-requires
-    enum-known-put
-    same-length-2
-    returns-2
-    enum_told
-    add-count
-    loop-less
-    loop-again
-    same-length-3
-    returns-3)
+    loop-at-init
+    skip_spaces-start-requires
+    shape_of-list-then-start-line
+    returns-then-start-line
+    word_end-end-requires
+    slice_bounds-put_word-count
+    slice_bounds-put_word-start
+    slice_bounds-put_word-end
+    put_word-put-requires
+    enum_known-put
+    shape_of-list-in-Stopped
+    returns-in-Stopped
+    enum_told-1
+    overflow_add-count
+    loop-at-smaller
+    loop-at-preserved
+    shape_of-list
+    returns)

@@ -7,71 +7,71 @@ use Rattle.decimal.proofs.LawsWords.{word_put, word_full, word_none, word_large}
 use Rattle.decimal.proofs.words.put_word.Statement.{statement}
 use Rattle.decimal.proofs.words.put_word.Tie as tie
 
-read-decimal-requires : tie.Need-read-decimal-requires
-read-decimal-requires c κs = search rules
+read_decimal-read-requires : tie.Need-read_decimal-read-requires
+read_decimal-read-requires c κs = search rules
 
-enum-known-read : tie.Need-enum-known-read
-enum-known-read c = search rules
+enum_known-read : tie.Need-enum_known-read
+enum_known-read c = search rules
 
-returns : tie.Need-returns
-returns c =
+returns-then-list-count : tie.Need-returns-then-list-count
+returns-then-list-count c =
     let r = c.before.before in
     let s = r.before.before.before.before.before.args in
-    let e = sym r.before.before.read-decimal.ensures ∙ r.read.given.1 in (
-      λ more. word_full (read_decimal s.word.now) s.start s.end s.list.now s.count more r.read.given.0.0 e
-          c.if1.true,
+    let e = sym r.before.before.read_decimal-read.ensures ∙ r.read-1.given.1 in (
+      λ more. word_full (read_decimal s.word.now) s.start s.end s.list.now s.count more r.read-1.given.0.0 e
+          c.if-list-count.true,
       refl,
     )
 
-mul-list : tie.Need-overflow-mul-list
-mul-list c = search rules
+offset_bounds-list-count : tie.Need-offset_bounds-list-count
+offset_bounds-list-count c = search rules
 
-slice-write-list : tie.Need-slice-write-list
-slice-write-list c = search rules
+bounds-list-count : tie.Need-bounds-list-count
+bounds-list-count c = search rules
 
-enum_told : tie.Need-enum-told
-enum_told c = search rules
+enum_told-1 : tie.Need-enum_told-1
+enum_told-1 c = search rules
 
-enum-told-2 : tie.Need-enum-told-2
-enum-told-2 c = search rules
+enum_told-in-TooLarge : tie.Need-enum_told-in-TooLarge
+enum_told-in-TooLarge c = search rules
 
-same_length : tie.Need-same-length
-same_length c = search rules
+shape_of-list : tie.Need-shape_of-list
+shape_of-list c = search rules
 
-returns-2 : tie.Need-returns-2
-returns-2 c =
+returns-else-list-count : tie.Need-returns-else-list-count
+returns-else-list-count c =
     let r = c.before.before in
     let s = r.before.before.before.before.before.args in
-    let e = sym r.before.before.read-decimal.ensures ∙ r.read.given.1 in (
-      λ more. word_put (read_decimal s.word.now) s.start s.end s.list.now s.count more r.read.given.0.0 e
-          c.if1.false,
-      length-set s.list.now s.count r.read.given.0.0,
+    let e = sym r.before.before.read_decimal-read.ensures ∙ r.read-1.given.1 in (
+      λ more. word_put (read_decimal s.word.now) s.start s.end s.list.now s.count more r.read-1.given.0.0 e
+          c.if-list-count.false,
+      length-set s.list.now s.count r.read-1.given.0.0,
     )
 
-returns-3 : tie.Need-returns-3
-returns-3 c =
+returns-in-NotANumber : tie.Need-returns-in-NotANumber
+returns-in-NotANumber c =
     let s = c.before.before.before.before.before.args in
-    let e = sym c.before.before.read-decimal.ensures ∙ c.enum_told.given.1 in
+    let e = sym c.before.before.read_decimal-read.ensures ∙ c.enum_told-1.given.1 in
     (λ more. word_none (read_decimal s.word.now) s.start s.end s.list.now s.count more e, refl)
 
-returns-4 : tie.Need-returns-4
-returns-4 c =
+returns-in-TooLarge : tie.Need-returns-in-TooLarge
+returns-in-TooLarge c =
     let s = c.before.before.before.before.before.args in
-    let e = sym c.before.before.read-decimal.ensures ∙ c.enum-told2.given.1 in
+    let e = sym c.before.before.read_decimal-read.ensures ∙ c.enum_told-in-TooLarge-1.given.1 in
     (λ more. word_large (read_decimal s.word.now) s.start s.end s.list.now s.count more e, refl)
 
-pub put-word-spec : {M : Type 1} → statement M
-put-word-spec =
+pub put_word_spec : {M : Type 1} → statement M
+put_word_spec =
     tie.close
     (tie.spec
-    read-decimal-requires
-    enum-known-read
-    returns
-    mul-list
-    slice-write-list
-    enum_told
-    enum-told-2
-    same_length
-    returns-2
-    returns-3
-    returns-4)
+    read_decimal-read-requires
+    enum_known-read
+    returns-then-list-count
+    offset_bounds-list-count
+    bounds-list-count
+    enum_told-1
+    enum_told-in-TooLarge
+    shape_of-list
+    returns-else-list-count
+    returns-in-NotANumber
+    returns-in-TooLarge)

@@ -9,61 +9,61 @@ use Rattle.decimal.proofs.LawsWords.{words_space}
 use Rattle.decimal.proofs.words.skip_spaces.Statement.{statement}
 use Rattle.decimal.proofs.words.skip_spaces.Tie as tie
 
-abbrev invariant_loop : tie.invariant_loop
+abbrev invariant_loop : tie.invariant-loop-i
 invariant_loop line from i₀ i = (from ≤ i) × (i ≤ length line) × (words_from line from ≡ words_from line i)
 
-abbrev decreases_loop : tie.decreases_loop
+abbrev decreases_loop : tie.decreases-loop-i
 decreases_loop line from i₀ i = length line - i
 
-loop-holds : tie.Need-loop-init invariant_loop decreases_loop
-loop-holds c = (omega arith, omega arith, refl)
+loop-i-init : tie.Need-loop-i-init invariant_loop decreases_loop
+loop-i-init c = (omega arith, omega arith, refl)
 
-shared-slice-read-if1 : tie.Need-shared-slice-read-if1 invariant_loop decreases_loop
-shared-slice-read-if1 c = search rules
+bounds-line-i : tie.Need-bounds-line-i invariant_loop decreases_loop
+bounds-line-i c = search rules
 
-returns : tie.Need-returns invariant_loop decreases_loop
-returns c = record {
+returns-then-line-i-gt32 : tie.Need-returns-then-line-i-gt32 invariant_loop decreases_loop
+returns-then-line-i-gt32 c = record {
   after = omega arith;
   inside = omega arith;
-  same = c.before.before.before.loop.invariant.2;
+  same = c.before.before.before.loop-i.invariant.2;
   begins =
-      λ h. c.if1.true;
+      λ h. c.if-line-i-gt32.true;
 }
 
-add-i : tie.Need-overflow-add-i invariant_loop decreases_loop
-add-i c = search rules
+overflow_add-i : tie.Need-overflow_add-i invariant_loop decreases_loop
+overflow_add-i c = search rules
 
-loop-less : tie.Need-loop-smaller invariant_loop decreases_loop
-loop-less c = search rules
+loop-i-smaller : tie.Need-loop-i-smaller invariant_loop decreases_loop
+loop-i-smaller c = search rules
 
-loop-again : tie.Need-loop-preserved invariant_loop decreases_loop
-loop-again c =
+loop-i-preserved : tie.Need-loop-i-preserved invariant_loop decreases_loop
+loop-i-preserved c =
     let l = c.before.before.before in (
       omega arith,
       omega arith,
-      l.loop.invariant.2 ∙ words_space l.before.args.line.now l.loop.i (omega arith) (omega (arith, c.if1.false)),
+      l.loop-i.invariant.2 ∙ words_space l.before.args.line.now l.loop-i.i (omega arith) (omega (arith, c.if-line-i-gt32.false)),
     )
 
-returns-2 : tie.Need-returns-2 invariant_loop decreases_loop
-returns-2 c =
+returns : tie.Need-returns invariant_loop decreases_loop
+returns c =
     record {
       after = omega arith;
       inside = omega arith;
-      same = c.before.loop.invariant.2;
+      same = c.before.loop-i.invariant.2;
       begins =
-          λ h. absurd (omega (arith, h, c.loop-test.false));
+          λ h. absurd (omega (arith, h, c.loop-i-test.false));
     }
 
-pub skip-spaces-spec : {M : Type 1} → statement M
-skip-spaces-spec =
+pub skip_spaces_spec : {M : Type 1} → statement M
+skip_spaces_spec =
     tie.close
     (tie.spec
     invariant_loop
     decreases_loop
-    loop-holds
-    shared-slice-read-if1
-    returns
-    add-i
-    loop-less
-    loop-again
-    returns-2)
+    loop-i-init
+    bounds-line-i
+    returns-then-line-i-gt32
+    overflow_add-i
+    loop-i-smaller
+    loop-i-preserved
+    returns)

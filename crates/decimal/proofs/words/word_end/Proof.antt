@@ -10,68 +10,68 @@ use Rattle.decimal.proofs.LawsWords.{word_on, word_stop, word_end}
 use Rattle.decimal.proofs.words.word_end.Statement.{statement}
 use Rattle.decimal.proofs.words.word_end.Tie as tie
 
-abbrev invariant_loop : tie.invariant_loop
+abbrev invariant_loop : tie.invariant-loop-i
 invariant_loop line start i₀ i =
     (start < i) × (i ≤ length line) × (words_in (some start) (start + 1) (drop (start + 1) line) ≡ words_in (some start) i (drop i line))
 
-abbrev decreases_loop : tie.decreases_loop
+abbrev decreases_loop : tie.decreases-loop-i
 decreases_loop line start i₀ i = length line - i
 
-add-i : tie.Need-overflow-add-i invariant_loop decreases_loop
-add-i c = search rules
+overflow_add-i : tie.Need-overflow_add-i invariant_loop decreases_loop
+overflow_add-i c = search rules
 
-loop-holds : tie.Need-loop-init invariant_loop decreases_loop
-loop-holds c = (omega arith, omega arith, refl)
+loop-i-init : tie.Need-loop-i-init invariant_loop decreases_loop
+loop-i-init c = (omega arith, omega arith, refl)
 
-shared-slice-read-if1 : tie.Need-shared-slice-read-if1 invariant_loop decreases_loop
-shared-slice-read-if1 c = search rules
+bounds-line-i : tie.Need-bounds-line-i invariant_loop decreases_loop
+bounds-line-i c = search rules
 
-returns : tie.Need-returns invariant_loop decreases_loop
-returns c =
+returns-then-line-i-le32 : tie.Need-returns-then-line-i-le32 invariant_loop decreases_loop
+returns-then-line-i-le32 c =
     let l = c.before.before.before in
     let a = l.before.args in
     record {
       after = omega arith;
       inside = omega arith;
-      whole = l.loop.invariant.2 ∙ word_stop a.line.now l.loop.i a.start (omega arith) c.if1.true;
+      whole = l.loop-i.invariant.2 ∙ word_stop a.line.now l.loop-i.i a.start (omega arith) c.if-line-i-le32.true;
     }
 
-add-i-2 : tie.Need-overflow-add-i-2 invariant_loop decreases_loop
-add-i-2 c = search rules
+overflow_add-i-in-loop-i : tie.Need-overflow_add-i-in-loop-i invariant_loop decreases_loop
+overflow_add-i-in-loop-i c = search rules
 
-loop-less : tie.Need-loop-smaller invariant_loop decreases_loop
-loop-less c = search rules
+loop-i-smaller : tie.Need-loop-i-smaller invariant_loop decreases_loop
+loop-i-smaller c = search rules
 
-loop-again : tie.Need-loop-preserved invariant_loop decreases_loop
-loop-again c =
+loop-i-preserved : tie.Need-loop-i-preserved invariant_loop decreases_loop
+loop-i-preserved c =
     let l = c.before.before.before in
     let a = l.before.args in (
       omega arith,
       omega arith,
-      l.loop.invariant.2 ∙ word_on a.line.now l.loop.i a.start (omega arith) (omega (arith, c.if1.false)),
+      l.loop-i.invariant.2 ∙ word_on a.line.now l.loop-i.i a.start (omega arith) (omega (arith, c.if-line-i-le32.false)),
     )
 
-returns-2 : tie.Need-returns-2 invariant_loop decreases_loop
-returns-2 c =
+returns : tie.Need-returns invariant_loop decreases_loop
+returns c =
     let l = c.before in
     let a = l.before.args in
     record {
       after = omega arith;
       inside = omega arith;
-      whole = l.loop.invariant.2 ∙ word_end a.line.now l.loop.i a.start (omega (arith, c.loop-test.false));
+      whole = l.loop-i.invariant.2 ∙ word_end a.line.now l.loop-i.i a.start (omega (arith, c.loop-i-test.false));
     }
 
-pub word-end-spec : {M : Type 1} → statement M
-word-end-spec =
+pub word_end_spec : {M : Type 1} → statement M
+word_end_spec =
     tie.close
     (tie.spec
     invariant_loop
     decreases_loop
-    add-i
-    loop-holds
-    shared-slice-read-if1
-    returns
-    add-i-2
-    loop-less
-    loop-again
-    returns-2)
+    overflow_add-i
+    loop-i-init
+    bounds-line-i
+    returns-then-line-i-le32
+    overflow_add-i-in-loop-i
+    loop-i-smaller
+    loop-i-preserved
+    returns)

@@ -10,30 +10,30 @@ record Clearing (words : List ℕ) (i : ℕ) : Type 0 where
   long : length words ≡ 4096
   none_before : (j : ℕ) → j < i → get_or words j 0 ≡ 0
 
-abbrev invariant_loop : tie.invariant_loop
+abbrev invariant_loop : tie.invariant-loop-i
 invariant_loop words₀ i₀ words i = Clearing words i
 
-abbrev decreases_loop : tie.decreases_loop
+abbrev decreases_loop : tie.decreases-loop-i
 decreases_loop words₀ i₀ words i = 4096 - i
 
-loop-holds : tie.Need-loop-init invariant_loop decreases_loop
-loop-holds c = record { inside = omega arith; long = c.requires; none_before = λ j h. absurd (omega arith) }
+loop-i-init : tie.Need-loop-i-init invariant_loop decreases_loop
+loop-i-init c = record { inside = omega arith; long = c.requires; none_before = λ j h. absurd (omega arith) }
 
-mul_words : tie.Need-overflow-mul-words invariant_loop decreases_loop
-mul_words c = search rules
+offset_bounds-words-i : tie.Need-offset_bounds-words-i invariant_loop decreases_loop
+offset_bounds-words-i c = search rules
 
-element-write-words : tie.Need-element-write-words invariant_loop decreases_loop
-element-write-words c = search rules
+bounds-words-i : tie.Need-bounds-words-i invariant_loop decreases_loop
+bounds-words-i c = search rules
 
-add-i : tie.Need-overflow-add-i invariant_loop decreases_loop
-add-i c = omega arith
+overflow_add-i : tie.Need-overflow_add-i invariant_loop decreases_loop
+overflow_add-i c = omega arith
 
-loop-less : tie.Need-loop-smaller invariant_loop decreases_loop
-loop-less c = omega arith
+loop-i-smaller : tie.Need-loop-i-smaller invariant_loop decreases_loop
+loop-i-smaller c = omega arith
 
-loop-again : tie.Need-loop-preserved invariant_loop decreases_loop
-loop-again c =
-    let l = c.before.loop in
+loop-i-preserved : tie.Need-loop-i-preserved invariant_loop decreases_loop
+loop-i-preserved c =
+    let l = c.before.loop-i in
     let e = l.invariant.long in
     record {
       inside = omega arith;
@@ -46,7 +46,7 @@ loop-again c =
 
 returns : tie.Need-returns invariant_loop decreases_loop
 returns c =
-    let l = c.before.loop in
+    let l = c.before.loop-i in
     let z : l.i ≡ 4096 = omega arith in
     record { long = l.invariant.long; none = λ j h. l.invariant.none_before j (omega arith) }
 
@@ -56,10 +56,10 @@ clear_spec =
     (tie.spec
     invariant_loop
     decreases_loop
-    loop-holds
-    mul_words
-    element-write-words
-    add-i
-    loop-less
-    loop-again
+    loop-i-init
+    offset_bounds-words-i
+    bounds-words-i
+    overflow_add-i
+    loop-i-smaller
+    loop-i-preserved
     returns)

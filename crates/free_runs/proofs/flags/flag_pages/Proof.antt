@@ -16,70 +16,70 @@ record Flagging (mark count : ℕ) (body : List ℕ) (head from : ℕ) (words₀
   -- With it all of the list is flagged at the end.
   going : Going mark (walked count body head) from words₀ words (walked left body at) next
 
-abbrev invariant_loop : tie.invariant_loop
+abbrev invariant_loop : tie.invariant-loop-left
 invariant_loop body mark head count words₀ from at₀ left₀ next₀ words at left next =
     Flagging mark count body head from words₀ words at left next
 
-abbrev decreases_loop : tie.decreases_loop
+abbrev decreases_loop : tie.decreases-loop-left
 decreases_loop body mark head count words₀ from at₀ left₀ next₀ words at left next = left
 
-loop-holds : tie.Need-loop-init invariant_loop decreases_loop
-loop-holds c = record { tells = refl; going = going_starts _ _ _ _ c.before.requires.long }
+loop-left-init : tie.Need-loop-left-init invariant_loop decreases_loop
+loop-left-init c = record { tells = refl; going = going_starts _ _ _ _ c.before.requires.long }
 
-is-page-requires : tie.Need-is-page-requires invariant_loop decreases_loop
-is-page-requires c κs = search rules
+is_page-requires : tie.Need-is_page-requires invariant_loop decreases_loop
+is_page-requires c κs = search rules
 
-returns : tie.Need-returns invariant_loop decreases_loop
-returns c =
-    let l = c.before.before.before.loop in
-    let stray = sym c.before.is-page.ensures ∙ not-true _ c.if1.true in
+returns-then-not-is_page : tie.Need-returns-then-not-is_page invariant_loop decreases_loop
+returns-then-not-is_page c =
+    let l = c.before.before.before.loop-left in
+    let stray = sym c.before.is_page.ensures ∙ not-true _ c.if-not-is_page.true in
     let all = sym (ends_strays _ _ l.left l.at (omega arith) stray) ∙ l.invariant.tells in
     record { passed = all; marks = λ e. absurd (true≢false (sym e ∙ sym all)); long = l.invariant.going.long }
 
-flag-page-requires : tie.Need-flag-page-requires invariant_loop decreases_loop
-flag-page-requires c κs = c.before.before.before.before.loop.invariant.going.long
+flag_page-next-requires : tie.Need-flag_page-next-requires invariant_loop decreases_loop
+flag_page-next-requires c κs = c.before.before.before.before.loop-left.invariant.going.long
 
 -- a page that can stand
-module _ (c : tie.Else1 invariant_loop decreases_loop) where
-  abbrev here : tie.At-loop invariant_loop decreases_loop
+module _ (c : tie.Else-not-is_page invariant_loop decreases_loop) where
+  abbrev here : tie.At-loop-left invariant_loop decreases_loop
   here = c.before.before.before
 
   abbrev first : tie.Start invariant_loop decreases_loop
   first = here.before.before
 
-  stands : Standing 8 here.loop.at first.args.mark
-  stands = block_stands 8 _ _ (sym c.before.is-page.ensures ∙ not-false _ c.if1.false)
+  stands : Standing 8 here.loop-left.at first.args.mark
+  stands = block_stands 8 _ _ (sym c.before.is_page.ensures ∙ not-false _ c.if-not-is_page.false)
 
-get-u64-requires : tie.Need-get-u64-requires invariant_loop decreases_loop
-get-u64-requires c κs =
+get_u64-at-requires : tie.Need-get_u64-at-requires invariant_loop decreases_loop
+get_u64-at-requires c κs =
     let d = c.before.before in
     let s = (stands d).ends in
     let p = (first d).requires.within in
     omega arith
 
-sub-left : tie.Need-overflow-sub-left invariant_loop decreases_loop
-sub-left c = omega arith
+overflow_sub-left : tie.Need-overflow_sub-left invariant_loop decreases_loop
+overflow_sub-left c = omega arith
 
-loop-less : tie.Need-loop-smaller invariant_loop decreases_loop
-loop-less c = omega arith
+loop-left-smaller : tie.Need-loop-left-smaller invariant_loop decreases_loop
+loop-left-smaller c = omega arith
 
-loop-again : tie.Need-loop-preserved invariant_loop decreases_loop
-loop-again c =
+loop-left-preserved : tie.Need-loop-left-preserved invariant_loop decreases_loop
+loop-left-preserved c =
     let d = c.before.before.before in
-    let l = (here d).loop in
+    let l = (here d).loop-left in
     let a = (first d).args in
-    let yes = sym d.before.is-page.ensures ∙ not-false _ d.if1.false in
-    rw c.get-u64.ensures
+    let yes = sym d.before.is_page.ensures ∙ not-false _ d.if-not-is_page.false in
+    rw c.get_u64-at.ensures
     (record {
       tells = sym (ends_step a.mark a.body.now l.left l.at (omega arith) yes) ∙ l.inv.tells;
       going = going_on _ _ _ _ l.words _ l.at _ l.next _ (stands d).aligned
-          (rw (walked_step a.mark a.body.now l.left l.at (omega arith)) at l.inv.going) c.before.flag-page.ensures;
+          (rw (walked_step a.mark a.body.now l.left l.at (omega arith)) at l.inv.going) c.before.flag_page-next.ensures;
     })
 
-returns-2 : tie.Need-returns-2 invariant_loop decreases_loop
+returns : tie.Need-returns invariant_loop decreases_loop
 unfolding walked
-returns-2 c =
-    let l = c.before.loop in
+returns c =
+    let l = c.before.loop-left in
     let z : l.left ≡ 0 = omega arith in
     record {
       passed = sym (ends_none _ _ l.at) ∙ (rw z at l.invariant.tells);
@@ -87,18 +87,18 @@ returns-2 c =
       long = l.invariant.going.long;
     }
 
-pub flag-pages-spec : {M : Type 1} → statement M
-flag-pages-spec =
+pub flag_pages_spec : {M : Type 1} → statement M
+flag_pages_spec =
     tie.close
     (tie.spec
     invariant_loop
     decreases_loop
-    loop-holds
-    is-page-requires
-    returns
-    flag-page-requires
-    get-u64-requires
-    sub-left
-    loop-less
-    loop-again
-    returns-2)
+    loop-left-init
+    is_page-requires
+    returns-then-not-is_page
+    flag_page-next-requires
+    get_u64-at-requires
+    overflow_sub-left
+    loop-left-smaller
+    loop-left-preserved
+    returns)

@@ -14,10 +14,10 @@ record Scanning (words : List ℕ) (from end start pages start' page : ℕ) : Ty
   goes_on : ToGoOn page start' pages
   sought : (os : List ℕ) → Flags words from (end - from) os → Sought pages from start os → Sought pages page start' os
 
-abbrev invariant_loop : tie.invariant_loop
+abbrev invariant_loop : tie.invariant-loop-page
 invariant_loop words from end start pages start₀ page₀ start' page = Scanning words from end start pages start' page
 
-abbrev decreases_loop : tie.decreases_loop
+abbrev decreases_loop : tie.decreases-loop-page
 decreases_loop words from end start pages start₀ page₀ start' page = end - page
 
 -- What the flag of a page tells.
@@ -38,79 +38,79 @@ empty words from end page os f l e to h k p m n =
     sym t ∙ no_flags words (page - from) (p - from) e (omega arith) (omega arith)
 
 -- a flag that is set
-module _ (c : tie.Then2 invariant_loop decreases_loop) where
-  abbrev here : tie.At-loop invariant_loop decreases_loop
+module _ (c : tie.Then-rest-eq1 invariant_loop decreases_loop) where
+  abbrev here : tie.At-loop-page invariant_loop decreases_loop
   here = c.before.before.before.before
 
   abbrev first : tie.Start invariant_loop decreases_loop
   first = here.before
 
-loop-holds : tie.Need-loop-init invariant_loop decreases_loop
-loop-holds c =
+loop-page-init : tie.Need-loop-page-init invariant_loop decreases_loop
+loop-page-init c =
     record { low = omega arith; high = omega arith; goes_on = c.requires.to_scan.to_go_on; sought = λ os f s. s }
 
-sub-i : tie.Need-overflow-sub-i invariant_loop decreases_loop
-sub-i c = omega arith
+overflow_sub-i : tie.Need-overflow_sub-i invariant_loop decreases_loop
+overflow_sub-i c = omega arith
 
-mul-rest : tie.Need-overflow-mul-rest invariant_loop decreases_loop
-mul-rest c = search rules
+offset_bounds-words-at : tie.Need-offset_bounds-words-at invariant_loop decreases_loop
+offset_bounds-words-at c = search rules
 
-element-copy-out-rest : tie.Need-element-copy-out-rest invariant_loop decreases_loop
-element-copy-out-rest c = omega arith
+bounds-words-at : tie.Need-bounds-words-at invariant_loop decreases_loop
+bounds-words-at c = omega arith
 
-shr-rest : tie.Need-overflow-shr-rest invariant_loop decreases_loop
-shr-rest c = omega arith
+overflow_shr-rest : tie.Need-overflow_shr-rest invariant_loop decreases_loop
+overflow_shr-rest c = omega arith
 
-sub-lower : tie.Need-overflow-sub-lower invariant_loop decreases_loop
-sub-lower c = omega arith
+overflow_sub-bit : tie.Need-overflow_sub-bit invariant_loop decreases_loop
+overflow_sub-bit c = omega arith
 
-add-lower : tie.Need-overflow-add-lower invariant_loop decreases_loop
-add-lower c = omega arith
+overflow_add-page : tie.Need-overflow_add-page invariant_loop decreases_loop
+overflow_add-page c = omega arith
 
-lower-requires : tie.Need-lower-requires invariant_loop decreases_loop
-lower-requires c κs = search rules
+lower-page-requires : tie.Need-lower-page-requires invariant_loop decreases_loop
+lower-page-requires c κs = search rules
 
-loop-less : tie.Need-loop-smaller invariant_loop decreases_loop
-loop-less c = omega arith
+loop-page-smaller-then-rest-eq0 : tie.Need-loop-page-smaller-then-rest-eq0 invariant_loop decreases_loop
+loop-page-smaller-then-rest-eq0 c = omega arith
 
-loop-again : tie.Need-loop-preserved invariant_loop decreases_loop
-loop-again c =
+loop-page-preserved-then-rest-eq0 : tie.Need-loop-page-preserved-then-rest-eq0 invariant_loop decreases_loop
+loop-page-preserved-then-rest-eq0 c =
     let h = c.before.before.before.before in
-    let l = h.loop in
+    let l = h.loop-page in
     let a = h.before.args in
-    let e = c.lower.ensures in
+    let e = c.lower-page.ensures in
     record {
       low = omega arith;
       high = omega arith;
       goes_on = record { some_pages = omega arith; begun = omega arith; short = omega arith };
       sought = λ os f s.
-          sought_past a.pages l.page l.start os (l.invariant.sought os f s) c.lower.result (omega arith) (omega arith)
+          sought_past a.pages l.page l.start os (l.invariant.sought os f s) c.lower-page.result (omega arith) (omega arith)
           (omega arith)
-          (empty a.words.now a.from a.end l.page os f (omega arith) (omega (arith, c.before.if1.true)) c.lower.result
+          (empty a.words.now a.from a.end l.page os f (omega arith) (omega (arith, c.before.if-rest-eq0.true)) c.lower-page.result
           (omega arith) (omega arith));
     }
 
-add-page : tie.Need-overflow-add-page invariant_loop decreases_loop
-add-page c = omega arith
+overflow_add-page-else-rest-eq0 : tie.Need-overflow_add-page-else-rest-eq0 invariant_loop decreases_loop
+overflow_add-page-else-rest-eq0 c = omega arith
 
-sub-if3 : tie.Need-overflow-sub-if3 invariant_loop decreases_loop
-sub-if3 c = omega arith
+overflow_sub-page : tie.Need-overflow_sub-page invariant_loop decreases_loop
+overflow_sub-page c = omega arith
 
-returns : tie.Need-returns invariant_loop decreases_loop
-returns c os f s =
-    let l = (here c.before).loop in
+returns-then-page-start : tie.Need-returns-then-page-start invariant_loop decreases_loop
+returns-then-page-start c os f s =
+    let l = (here c.before).loop-page in
     let a = (first c.before).args in
     let yes = sym (told a.words.now a.from a.end l.page os 1 f (omega arith) (omega arith)
-    (omega (arith, c.before.if2.true))) in
+    (omega (arith, c.before.if-rest-eq1.true))) in
     sought_found a.pages (l.page + 1) l.start os (sought_freed a.pages l.page l.start os (l.inv.sought os f s) yes)
     a.end (omega arith) (omega arith)
 
-loop-less-2 : tie.Need-loop-smaller-2 invariant_loop decreases_loop
-loop-less-2 c = omega arith
+loop-page-smaller-else-page-start : tie.Need-loop-page-smaller-else-page-start invariant_loop decreases_loop
+loop-page-smaller-else-page-start c = omega arith
 
-loop-again-2 : tie.Need-loop-preserved-2 invariant_loop decreases_loop
-loop-again-2 c =
-    let l = (here c.before).loop in
+loop-page-preserved-else-page-start : tie.Need-loop-page-preserved-else-page-start invariant_loop decreases_loop
+loop-page-preserved-else-page-start c =
+    let l = (here c.before).loop-page in
     let a = (first c.before).args in
     record {
       low = omega arith;
@@ -119,16 +119,16 @@ loop-again-2 c =
       sought = λ os f s.
           sought_freed a.pages l.page l.start os (l.inv.sought os f s)
           (sym (told a.words.now a.from a.end l.page os 1 f (omega arith) (omega arith)
-          (omega (arith, c.before.if2.true))));
+          (omega (arith, c.before.if-rest-eq1.true))));
     }
 
-loop-less-3 : tie.Need-loop-smaller-3 invariant_loop decreases_loop
-loop-less-3 c = omega arith
+loop-page-smaller : tie.Need-loop-page-smaller invariant_loop decreases_loop
+loop-page-smaller c = omega arith
 
-loop-again-3 : tie.Need-loop-preserved-3 invariant_loop decreases_loop
-loop-again-3 c =
+loop-page-preserved : tie.Need-loop-page-preserved invariant_loop decreases_loop
+loop-page-preserved c =
     let h = c.before.before.before.before in
-    let l = h.loop in
+    let l = h.loop-page in
     let a = h.before.args in
     record {
       low = omega arith;
@@ -138,38 +138,38 @@ loop-again-3 c =
           sought_past a.pages l.page l.start os (l.invariant.sought os f s) (l.page + 1) (omega arith) (omega arith) (omega arith)
           (λ p m n.
           let z : p ≡ l.page = omega arith in
-          let t = told a.words.now a.from a.end l.page os 0 f (omega arith) (omega arith) (omega (arith, c.if2.false)) in
+          let t = told a.words.now a.from a.end l.page os 0 f (omega arith) (omega arith) (omega (arith, c.if-rest-eq1.false)) in
           subst (λ (q : ℕ). is_in (q * 4096) os ≡ false) (sym z) (sym t ∙ ne_eqb 0 1 (λ e. omega arith)));
     }
 
-returns-2 : tie.Need-returns-2 invariant_loop decreases_loop
-returns-2 c os f s =
-    let l = c.before.loop in
+returns : tie.Need-returns invariant_loop decreases_loop
+returns c os f s =
+    let l = c.before.loop-page in
     let a = c.before.before.args in
     let z : l.page ≡ a.end = omega arith in
     subst (λ (p : ℕ). Sought a.pages p l.start os) z (l.invariant.sought os f s)
 
-pub scan-spec : {M : Type 1} → statement M
-scan-spec =
+pub scan_spec : {M : Type 1} → statement M
+scan_spec =
     tie.close
     (tie.spec
     invariant_loop
     decreases_loop
-    loop-holds
-    sub-i
-    mul-rest
-    element-copy-out-rest
-    shr-rest
-    sub-lower
-    add-lower
-    lower-requires
-    loop-less
-    loop-again
-    add-page
-    sub-if3
-    returns
-    loop-less-2
-    loop-again-2
-    loop-less-3
-    loop-again-3
-    returns-2)
+    loop-page-init
+    overflow_sub-i
+    offset_bounds-words-at
+    bounds-words-at
+    overflow_shr-rest
+    overflow_sub-bit
+    overflow_add-page
+    lower-page-requires
+    loop-page-smaller-then-rest-eq0
+    loop-page-preserved-then-rest-eq0
+    overflow_add-page-else-rest-eq0
+    overflow_sub-page
+    returns-then-page-start
+    loop-page-smaller-else-page-start
+    loop-page-preserved-else-page-start
+    loop-page-smaller
+    loop-page-preserved
+    returns)

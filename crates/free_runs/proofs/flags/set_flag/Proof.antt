@@ -6,20 +6,20 @@ use Rattle.free_runs.specs.Steps.{set_flag}
 use Rattle.free_runs.proofs.flags.set_flag.Statement.{statement}
 use Rattle.free_runs.proofs.flags.set_flag.Tie as tie
 
-mul_words : tie.Need-overflow-mul-words
-mul_words c = search rules
+offset_bounds-words-at : tie.Need-offset_bounds-words-at
+offset_bounds-words-at c = search rules
 
-element-copy-out-words : tie.Need-element-copy-out-words
-element-copy-out-words c = search rules
+bounds-words-at : tie.Need-bounds-words-at
+bounds-words-at c = search rules
 
-shl-words : tie.Need-overflow-shl-words
-shl-words c = search rules
+overflow_shl-words : tie.Need-overflow_shl-words
+overflow_shl-words c = search rules
 
-mul-words-2 : tie.Need-overflow-mul-words-2
-mul-words-2 c = search rules
+offset_bounds-words-at-2 : tie.Need-offset_bounds-words-at-2
+offset_bounds-words-at-2 c = search rules
 
-element-write-words : tie.Need-element-write-words
-element-write-words c = search rules
+bounds-words-at-2 : tie.Need-bounds-words-at-2
+bounds-words-at-2 c = search rules
 
 -- A bit of a word fits.
 bit_fits : (b : ℕ) → b < 64 → 1 * 2 ^ b % 18446744073709551616 ≡ 2 ^ b
@@ -34,7 +34,7 @@ returns c =
     let a = c.before.args in
     ap (λ (b : ℕ). set a.words.now (a.i / 64) (bit_or (get_or a.words.now (a.i / 64) 0) b)) (bit_fits (a.i % 64) (omega arith))
 
-pub set-flag-spec : {M : Type 1} → statement M
-set-flag-spec =
+pub set_flag_spec : {M : Type 1} → statement M
+set_flag_spec =
     tie.close
-    (tie.spec mul_words element-copy-out-words shl-words mul-words-2 element-write-words returns)
+    (tie.spec offset_bounds-words-at bounds-words-at overflow_shl-words offset_bounds-words-at-2 bounds-words-at-2 returns)

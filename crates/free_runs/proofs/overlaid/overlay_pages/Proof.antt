@@ -17,71 +17,71 @@ record Flagging (mark count : ℕ) (body : List ℕ) (head : ℕ) (words₀ word
   -- With it all of the list is flagged at the end.
   going : Overlaying (walked count body head) words₀ words (walked left body at)
 
-abbrev invariant_loop : tie.invariant_loop
+abbrev invariant_loop : tie.invariant-loop-left
 invariant_loop body mark head count words₀ at₀ left₀ words at left = Flagging mark count body head words₀ words at left
 
-abbrev decreases_loop : tie.decreases_loop
+abbrev decreases_loop : tie.decreases-loop-left
 decreases_loop body mark head count words₀ at₀ left₀ words at left = left
 
 -- a page that can stand
-module _ (c : tie.Else1 invariant_loop decreases_loop) where
-  abbrev here : tie.At-loop invariant_loop decreases_loop
+module _ (c : tie.Else-not-is_page invariant_loop decreases_loop) where
+  abbrev here : tie.At-loop-left invariant_loop decreases_loop
   here = c.before.before.before
 
   abbrev first : tie.Start invariant_loop decreases_loop
   first = here.before.before
 
-loop-holds : tie.Need-loop-init invariant_loop decreases_loop
-loop-holds c = record { tells = refl; going = overlaying_none _ _ c.before.requires.long }
+loop-left-init : tie.Need-loop-left-init invariant_loop decreases_loop
+loop-left-init c = record { tells = refl; going = overlaying_none _ _ c.before.requires.long }
 
-is-page-requires : tie.Need-is-page-requires invariant_loop decreases_loop
-is-page-requires c κs = search rules
+is_page-requires : tie.Need-is_page-requires invariant_loop decreases_loop
+is_page-requires c κs = search rules
 
-returns : tie.Need-returns invariant_loop decreases_loop
-returns c =
-    let l = c.before.before.before.loop in
-    let stray = sym c.before.is-page.ensures ∙ not-true _ c.if1.true in
+returns-then-not-is_page : tie.Need-returns-then-not-is_page invariant_loop decreases_loop
+returns-then-not-is_page c =
+    let l = c.before.before.before.loop-left in
+    let stray = sym c.before.is_page.ensures ∙ not-true _ c.if-not-is_page.true in
     let all = sym (ends_strays _ _ l.left l.at (omega arith) stray) ∙ l.invariant.tells in
     record { passed = all; overlays = λ e. absurd (true≢false (sym e ∙ sym all)); long = l.invariant.going.long }
 
-set-flag-requires : tie.Need-set-flag-requires invariant_loop decreases_loop
-set-flag-requires c κs = search rules
+set_flag-requires : tie.Need-set_flag-requires invariant_loop decreases_loop
+set_flag-requires c κs = search rules
 
-get-u64-requires : tie.Need-get-u64-requires invariant_loop decreases_loop
-get-u64-requires c κs =
+get_u64-at-requires : tie.Need-get_u64-at-requires invariant_loop decreases_loop
+get_u64-at-requires c κs =
     let d = c.before.before in
-    let yes = sym d.before.is-page.ensures ∙ not-false _ d.if1.false in
-    let s = (block_stands 8 (here d).loop.at _ yes).ends in
+    let yes = sym d.before.is_page.ensures ∙ not-false _ d.if-not-is_page.false in
+    let s = (block_stands 8 (here d).loop-left.at _ yes).ends in
     let p = (first d).requires.within in
     omega arith
 
-sub-left : tie.Need-overflow-sub-left invariant_loop decreases_loop
-sub-left c = omega arith
+overflow_sub-left : tie.Need-overflow_sub-left invariant_loop decreases_loop
+overflow_sub-left c = omega arith
 
-loop-less : tie.Need-loop-smaller invariant_loop decreases_loop
-loop-less c = omega arith
+loop-left-smaller : tie.Need-loop-left-smaller invariant_loop decreases_loop
+loop-left-smaller c = omega arith
 
-loop-again : tie.Need-loop-preserved invariant_loop decreases_loop
-loop-again c =
+loop-left-preserved : tie.Need-loop-left-preserved invariant_loop decreases_loop
+loop-left-preserved c =
     let d = c.before.before.before in
-    let l = (here d).loop in
+    let l = (here d).loop-left in
     let a = (first d).args in
-    let yes = sym d.before.is-page.ensures ∙ not-false _ d.if1.false in
+    let yes = sym d.before.is_page.ensures ∙ not-false _ d.if-not-is_page.false in
     let os = walked a.count a.body.now a.head in
-    rw c.get-u64.ensures
+    rw c.get_u64-at.ensures
     (record {
       tells = sym (ends_step a.mark a.body.now l.left l.at (omega arith) yes) ∙ l.inv.tells;
       going = subst
           (λ (w : List ℕ). Overlaying os a.words.now w (walked (l.left - 1) a.body.now (next_of a.body.now l.at)))
-          (sym c.before.set-flag.ensures)
+          (sym c.before.set_flag.ensures)
           (overlaying_one _ _ l.words l.at _ (rw (walked_step a.mark a.body.now l.left l.at (omega arith)) at
           l.inv.going));
     })
 
-returns-2 : tie.Need-returns-2 invariant_loop decreases_loop
+returns : tie.Need-returns invariant_loop decreases_loop
 unfolding walked
-returns-2 c =
-    let l = c.before.loop in
+returns c =
+    let l = c.before.loop-left in
     let z : l.left ≡ 0 = omega arith in
     record {
       passed = sym (ends_none _ _ l.at) ∙ (rw z at l.invariant.tells);
@@ -89,18 +89,18 @@ returns-2 c =
       long = l.invariant.going.long;
     }
 
-pub overlay-pages-spec : {M : Type 1} → statement M
-overlay-pages-spec =
+pub overlay_pages_spec : {M : Type 1} → statement M
+overlay_pages_spec =
     tie.close
     (tie.spec
     invariant_loop
     decreases_loop
-    loop-holds
-    is-page-requires
-    returns
-    set-flag-requires
-    get-u64-requires
-    sub-left
-    loop-less
-    loop-again
-    returns-2)
+    loop-left-init
+    is_page-requires
+    returns-then-not-is_page
+    set_flag-requires
+    get_u64-at-requires
+    overflow_sub-left
+    loop-left-smaller
+    loop-left-preserved
+    returns)

@@ -11,8 +11,8 @@ use Rattle.free_runs.proofs.overlaid.rule_out.Statement.{statement}
 use Rattle.free_runs.proofs.overlaid.rule_out.Tie as tie
 
 -- The list was walked.
-module _ (c : tie.Else1) where
-  abbrev walk : tie.After-overlay-pages
+module _ (c : tie.Else-not-overlay_pages) where
+  abbrev walk : tie.After-overlay_pages
   walk = c.before
 
   abbrev at : tie.Start
@@ -22,62 +22,62 @@ module _ (c : tie.Else1) where
   os = walked at.args.count at.args.body.now at.args.head
 
   passes : pages_end at.args.mark at.args.count at.args.body.now at.args.head ≡ true
-  passes = sym walk.overlay-pages.ensures.passed ∙ not-false _ c.if1.false
+  passes = sym walk.overlay_pages.ensures.passed ∙ not-false _ c.if-not-overlay_pages.false
 
 -- The flags were searched once.
-module _ (c : tie.After-scan) where
-  abbrev passed : tie.Else1
+module _ (c : tie.After-scan-first) where
+  abbrev passed : tie.Else-not-overlay_pages
   passed = c.before.before.before
 
-  once : Sought (at passed).args.pages window_pages c.scan.result (twice (os passed))
+  once : Sought (at passed).args.pages window_pages c.scan-first.result (twice (os passed))
   once =
-      c.scan.ensures (twice (os passed))
-      (flags_first (os passed) _ _ (at passed).pre.unset ((walk passed).overlay-pages.ensures.overlays (passes passed)))
+      c.scan-first.ensures (twice (os passed))
+      (flags_first (os passed) _ _ (at passed).pre.unset ((walk passed).overlay_pages.ensures.overlays (passes passed)))
       (sought_none _ _)
 
 -- And once more.
-module _ (c : tie.After-scan2) where
-  abbrev first : tie.After-scan
+module _ (c : tie.After-scan-second) where
+  abbrev first : tie.After-scan-first
   first = c.before.before.before
 
-  abbrev judged : tie.Else1
+  abbrev judged : tie.Else-not-overlay_pages
   judged = passed first
 
-  again : Sought (at judged).args.pages (2 * window_pages) c.scan2.result (twice (os judged))
+  again : Sought (at judged).args.pages (2 * window_pages) c.scan-second.result (twice (os judged))
   again =
-      c.scan2.ensures (twice (os judged))
-      (flags_second (os judged) _ _ (at judged).pre.unset ((walk judged).overlay-pages.ensures.overlays (passes judged)))
+      c.scan-second.ensures (twice (os judged))
+      (flags_second (os judged) _ _ (at judged).pre.unset ((walk judged).overlay_pages.ensures.overlays (passes judged)))
       (once first)
 
-overlay-pages-requires : tie.Need-overlay-pages-requires
-overlay-pages-requires c κs = search rules
+overlay_pages-requires : tie.Need-overlay_pages-requires
+overlay_pages-requires c κs = search rules
 
-returns : tie.Need-returns
-returns c =
-    let f = c.before.overlay-pages.ensures in
-    record { passed = sym (not-true _ c.if1.true) ∙ f.passed; rules = λ e z. absurd (true≢false (sym z)); long = f.long }
+returns-then-not-overlay_pages : tie.Need-returns-then-not-overlay_pages
+returns-then-not-overlay_pages c =
+    let f = c.before.overlay_pages.ensures in
+    record { passed = sym (not-true _ c.if-not-overlay_pages.true) ∙ f.passed; rules = λ e z. absurd (true≢false (sym z)); long = f.long }
 
-returns-2 : tie.Need-returns-2
-returns-2 c =
+returns-then-pages-gt-WINDOW : tie.Need-returns-then-pages-gt-WINDOW
+returns-then-pages-gt-WINDOW c =
     let p = c.before in
-    record { passed = sym (passes p); rules = λ e z. absurd (true≢false (sym z)); long = (walk p).overlay-pages.ensures.long }
+    record { passed = sym (passes p); rules = λ e z. absurd (true≢false (sym z)); long = (walk p).overlay_pages.ensures.long }
 
-scan-requires : tie.Need-scan-requires
-scan-requires c κs = search rules
+scan-first-requires : tie.Need-scan-first-requires
+scan-first-requires c κs = search rules
 
-sub-if3 : tie.Need-overflow-sub-if3
-sub-if3 c = (once c).at
+overflow_sub-first : tie.Need-overflow_sub-first
+overflow_sub-first c = (once c).at
 
-returns-3 : tie.Need-returns-3
-returns-3 c =
+returns-then-first-pages : tie.Need-returns-then-first-pages
+returns-then-first-pages c =
     let p = passed c.before in
-    record { passed = sym (passes p); rules = λ e z. absurd (true≢false (sym z)); long = (walk p).overlay-pages.ensures.long }
+    record { passed = sym (passes p); rules = λ e z. absurd (true≢false (sym z)); long = (walk p).overlay_pages.ensures.long }
 
-mul-scan : tie.Need-overflow-mul-scan
-mul-scan c = search rules
+overflow_mul-scan : tie.Need-overflow_mul-scan
+overflow_mul-scan c = search rules
 
-scan-requires-2 : tie.Need-scan-requires-2
-scan-requires-2 c κs =
+scan-second-requires : tie.Need-scan-second-requires
+scan-second-requires c κs =
     let s = c.before.before in
     let l = (once s).at in
     record {
@@ -89,39 +89,39 @@ scan-requires-2 c κs =
       window = omega arith;
     }
 
-mul-t13 : tie.Need-overflow-mul-t13
-mul-t13 c = search rules
+overflow_mul-result : tie.Need-overflow_mul-result
+overflow_mul-result c = search rules
 
-sub-t15 : tie.Need-overflow-sub-t15
-sub-t15 c = (again c).at
+overflow_sub-result : tie.Need-overflow_sub-result
+overflow_sub-result c = (again c).at
 
-returns-4 : tie.Need-returns-4
-returns-4 c =
+returns : tie.Need-returns
+returns c =
     let p = judged c in
     let t = at p in
     record {
       passed = sym (passes p);
       rules = λ e z.
-          let short : 2 * window_pages - c.scan2.result < t.args.pages = ltb-true _ _ z in
+          let short : 2 * window_pages - c.scan-second.result < t.args.pages = ltb-true _ _ z in
           lowest_missed t.args.pages (os p) t.pre.some_pages
-          (ruled_out t.args.mark t.args.pages c.scan2.result (os p)
+          (ruled_out t.args.mark t.args.pages c.scan-second.result (os p)
           (walked_pages t.args.mark t.args.body.now t.args.count t.args.head (passes p)) t.pre.some_pages
           (omega arith) (again c) (omega arith));
-      long = (walk p).overlay-pages.ensures.long;
+      long = (walk p).overlay_pages.ensures.long;
     }
 
-pub rule-out-spec : {M : Type 1} → statement M
-rule-out-spec =
+pub rule_out_spec : {M : Type 1} → statement M
+rule_out_spec =
     tie.close
     (tie.spec
-    overlay-pages-requires
-    returns
-    returns-2
-    scan-requires
-    sub-if3
-    returns-3
-    mul-scan
-    scan-requires-2
-    mul-t13
-    sub-t15
-    returns-4)
+    overlay_pages-requires
+    returns-then-not-overlay_pages
+    returns-then-pages-gt-WINDOW
+    scan-first-requires
+    overflow_sub-first
+    returns-then-first-pages
+    overflow_mul-scan
+    scan-second-requires
+    overflow_mul-result
+    overflow_sub-result
+    returns)

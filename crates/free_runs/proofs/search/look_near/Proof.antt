@@ -9,36 +9,36 @@ use Rattle.free_runs.proofs.search.look_near.Statement.{statement}
 use Rattle.free_runs.proofs.search.look_near.Tie as tie
 
 -- The words are clear, and the window's end is known.
-module _ (c : tie.After-lower) where
+module _ (c : tie.After-lower-end) where
   abbrev first : tie.Start
   first = c.before.before.before.before
 
 -- Its flags were searched.
-module _ (c : tie.After-scan) where
-  abbrev ended : tie.After-lower
+module _ (c : tie.After-scan-first) where
+  abbrev ended : tie.After-lower-end
   ended = c.before.before.before.before
 
 clear-requires : tie.Need-clear-requires
 clear-requires c κs = search rules
 
-add-lower : tie.Need-overflow-add-lower
-add-lower c = search rules
+overflow_add-from : tie.Need-overflow_add-from
+overflow_add-from c = search rules
 
-lower-requires : tie.Need-lower-requires
-lower-requires c κs = search rules
+lower-end-requires : tie.Need-lower-end-requires
+lower-end-requires c κs = search rules
 
-flag-pages-requires : tie.Need-flag-pages-requires
-flag-pages-requires c κs = search rules
+flag_pages-got-requires : tie.Need-flag_pages-got-requires
+flag_pages-got-requires c κs = search rules
 
-scan-requires : tie.Need-scan-requires
-scan-requires c κs = search rules
+scan-first-requires : tie.Need-scan-first-requires
+scan-first-requires c κs = search rules
 
 returns : tie.Need-returns
 returns c =
-    let f = c.before.before.flag-pages.ensures in
+    let f = c.before.before.flag_pages-got.ensures in
     let s = ended c in
     let a = (first s).args in
-    let e = s.lower.ensures in
+    let e = s.lower-end.ensures in
     let p = (first s).pre.below in
     record {
       passed = f.passed;
@@ -46,7 +46,7 @@ returns c =
           let m = f.marks passes in
           let top = m.limit in
           record {
-            sought = c.scan.ensures (walked a.count a.body.now a.head)
+            sought = c.scan-first.ensures (walked a.count a.body.now a.head)
                 (record {
                   tells = λ i h.
                       m.flags i (omega arith)
@@ -64,6 +64,6 @@ returns c =
       long = f.long;
     }
 
-pub look-near-spec : {M : Type 1} → statement M
-look-near-spec =
-    tie.close (tie.spec clear-requires add-lower lower-requires flag-pages-requires scan-requires returns)
+pub look_near_spec : {M : Type 1} → statement M
+look_near_spec =
+    tie.close (tie.spec clear-requires overflow_add-from lower-end-requires flag_pages-got-requires scan-first-requires returns)

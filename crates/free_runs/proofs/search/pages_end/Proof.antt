@@ -7,58 +7,58 @@ use Rattle.free_runs.proofs.LawsWalk.{ends_none, ends_step, ends_strays}
 use Rattle.free_runs.proofs.search.pages_end.Statement.{statement}
 use Rattle.free_runs.proofs.search.pages_end.Tie as tie
 
-abbrev invariant_loop : tie.invariant_loop
+abbrev invariant_loop : tie.invariant-loop-left
 invariant_loop body mark head count at₀ left₀ at left = pages_end mark left body at ≡ pages_end mark count body head
 
-abbrev decreases_loop : tie.decreases_loop
+abbrev decreases_loop : tie.decreases-loop-left
 decreases_loop body mark head count at₀ left₀ at left = left
 
-loop-holds : tie.Need-loop-init invariant_loop decreases_loop
-loop-holds c = refl
+loop-left-init : tie.Need-loop-left-init invariant_loop decreases_loop
+loop-left-init c = refl
 
-is-page-requires : tie.Need-is-page-requires invariant_loop decreases_loop
-is-page-requires c κs = search rules
+is_page-requires : tie.Need-is_page-requires invariant_loop decreases_loop
+is_page-requires c κs = search rules
 
-returns : tie.Need-returns invariant_loop decreases_loop
-returns c =
-    let l = c.before.before.before.loop in
-    let no : _ = sym c.before.is-page.ensures ∙ not-true _ c.if1.true in
+returns-then-not-is_page : tie.Need-returns-then-not-is_page invariant_loop decreases_loop
+returns-then-not-is_page c =
+    let l = c.before.before.before.loop-left in
+    let no : _ = sym c.before.is_page.ensures ∙ not-true _ c.if-not-is_page.true in
     sym (ends_strays _ _ l.left l.at (omega arith) no) ∙ l.invariant
 
-get-u64-requires : tie.Need-get-u64-requires invariant_loop decreases_loop
-get-u64-requires c κs =
+get_u64-at-requires : tie.Need-get_u64-at-requires invariant_loop decreases_loop
+get_u64-at-requires c κs =
     let h = c.before.before.before in
-    let yes = sym c.before.is-page.ensures ∙ not-false _ c.if1.false in
-    let s = (block_stands 8 h.loop.at _ yes).ends in
+    let yes = sym c.before.is_page.ensures ∙ not-false _ c.if-not-is_page.false in
+    let s = (block_stands 8 h.loop-left.at _ yes).ends in
     let p = h.before.before.requires in
     omega arith
 
-sub-left : tie.Need-overflow-sub-left invariant_loop decreases_loop
-sub-left c = omega arith
+overflow_sub-left : tie.Need-overflow_sub-left invariant_loop decreases_loop
+overflow_sub-left c = omega arith
 
-loop-less : tie.Need-loop-smaller invariant_loop decreases_loop
-loop-less c = omega arith
+loop-left-smaller : tie.Need-loop-left-smaller invariant_loop decreases_loop
+loop-left-smaller c = omega arith
 
-loop-again : tie.Need-loop-preserved invariant_loop decreases_loop
-loop-again c =
-    let l = c.before.before.before.before.loop in
-    let yes = sym c.before.before.is-page.ensures ∙ not-false _ c.before.if1.false in
-    rw c.get-u64.ensures (sym (ends_step _ _ l.left l.at (omega arith) yes) ∙ l.invariant)
+loop-left-preserved : tie.Need-loop-left-preserved invariant_loop decreases_loop
+loop-left-preserved c =
+    let l = c.before.before.before.before.loop-left in
+    let yes = sym c.before.before.is_page.ensures ∙ not-false _ c.before.if-not-is_page.false in
+    rw c.get_u64-at.ensures (sym (ends_step _ _ l.left l.at (omega arith) yes) ∙ l.invariant)
 
-returns-2 : tie.Need-returns-2 invariant_loop decreases_loop
-returns-2 c = let l = c.before.loop in let z : l.left ≡ 0 = omega arith in sym (ends_none _ _ l.at) ∙ (rw z at l.invariant)
+returns : tie.Need-returns invariant_loop decreases_loop
+returns c = let l = c.before.loop-left in let z : l.left ≡ 0 = omega arith in sym (ends_none _ _ l.at) ∙ (rw z at l.invariant)
 
-pub pages-end-spec : {M : Type 1} → statement M
-pages-end-spec =
+pub pages_end_spec : {M : Type 1} → statement M
+pages_end_spec =
     tie.close
     (tie.spec
     invariant_loop
     decreases_loop
-    loop-holds
-    is-page-requires
-    returns
-    get-u64-requires
-    sub-left
-    loop-less
-    loop-again
-    returns-2)
+    loop-left-init
+    is_page-requires
+    returns-then-not-is_page
+    get_u64-at-requires
+    overflow_sub-left
+    loop-left-smaller
+    loop-left-preserved
+    returns)

@@ -20,24 +20,24 @@ record Searching (mark count : ℕ) (body : List ℕ) (head pages limit : ℕ) (
   judged : 0 < from → pages_end mark count body head ≡ true
   long : length words ≡ 4096
 
-abbrev invariant_loop : tie.invariant_loop
+abbrev invariant_loop : tie.invariant-loop-from
 invariant_loop body mark head count words₀ pages limit from₀ start₀ words from start =
     Searching mark count body head pages limit words from start
 
-abbrev decreases_loop : tie.decreases_loop
+abbrev decreases_loop : tie.decreases-loop-from
 decreases_loop body mark head count words₀ pages limit from₀ start₀ words from start = limit - from
 
 -- A window was looked at.
-module _ (c : tie.After-look invariant_loop decreases_loop) where
-  abbrev here : tie.At-loop invariant_loop decreases_loop
+module _ (c : tie.After-look-got invariant_loop decreases_loop) where
+  abbrev here : tie.At-loop-from invariant_loop decreases_loop
   here = c.before.before.before
 
   abbrev first_of : tie.Start invariant_loop decreases_loop
   first_of = here.before.before
 
 -- And the list passes.
-module _ (c : tie.Else1 invariant_loop decreases_loop) where
-  abbrev looked : tie.After-look invariant_loop decreases_loop
+module _ (c : tie.Else-not-got invariant_loop decreases_loop) where
+  abbrev looked : tie.After-look-got invariant_loop decreases_loop
   looked = c.before.before
 
   abbrev at : tie.Start invariant_loop decreases_loop
@@ -47,25 +47,25 @@ module _ (c : tie.Else1 invariant_loop decreases_loop) where
   os = walked at.args.count at.args.body.now at.args.head
 
   passes : pages_end at.args.mark at.args.count at.args.body.now at.args.head ≡ true
-  passes = sym looked.look.ensures.passed ∙ not-false _ c.if1.false
+  passes = sym looked.look-got.ensures.passed ∙ not-false _ c.if-not-got.false
 
   abbrev end : ℕ
-  end = looked.look.result.end
+  end = looked.look-got.result.end
 
   abbrev first : ℕ
-  first = looked.look.result.start
+  first = looked.look-got.result.start
 
   abbrev next : ℕ
-  next = looked.look.result.next
+  next = looked.look-got.result.next
 
-  looks : Looks at.args.mark os (here looked).loop.from end (here looked).loop.start at.args.pages first next
-  looks = looked.look.ensures.looks passes
+  looks : Looks at.args.mark os (here looked).loop-from.from end (here looked).loop-from.start at.args.pages first next
+  looks = looked.look-got.ensures.looks passes
 
   sought : Sought at.args.pages end first os
-  sought = looks.sought (here looked).loop.inv.sought
+  sought = looks.sought (here looked).loop-from.invariant.sought
 
-loop-holds : tie.Need-loop-init invariant_loop decreases_loop
-loop-holds c =
+loop-from-init : tie.Need-loop-from-init invariant_loop decreases_loop
+loop-from-init c =
     let p = c.before.requires in
     record {
       inside = omega arith;
@@ -75,9 +75,9 @@ loop-holds c =
       long = p.long;
     }
 
-look-requires : tie.Need-look-requires invariant_loop decreases_loop
-look-requires c κs =
-    let i = c.before.before.loop.invariant in
+look-got-requires : tie.Need-look-got-requires invariant_loop decreases_loop
+look-got-requires c κs =
+    let i = c.before.before.loop-from.invariant in
     let p = c.before.before.before.before.requires in
     record {
       to_look = record {
@@ -88,21 +88,21 @@ look-requires c κs =
       judged = i.judged;
     }
 
-returns : tie.Need-returns invariant_loop decreases_loop
-returns c =
+returns-then-not-got : tie.Need-returns-then-not-got invariant_loop decreases_loop
+returns-then-not-got c =
     let k = c.before.before in
     let a = (first_of k).args in
-    let stray = sym k.look.ensures.passed ∙ not-true _ c.if1.true in
+    let stray = sym k.look-got.ensures.passed ∙ not-true _ c.if-not-got.true in
     sym (run_strays a.mark a.count a.body.now a.head a.pages stray)
 
-sub-if2 : tie.Need-overflow-sub-if2 invariant_loop decreases_loop
-sub-if2 c = (sought c).at
+overflow_sub-end : tie.Need-overflow_sub-end invariant_loop decreases_loop
+overflow_sub-end c = (sought c).at
 
-mul-t17 : tie.Need-overflow-mul-t17 invariant_loop decreases_loop
-mul-t17 c = let s = (sought c.before).at in let e = (looks c.before).inside in omega arith
+overflow_mul-result : tie.Need-overflow_mul-result invariant_loop decreases_loop
+overflow_mul-result c = let s = (sought c.before).at in let e = (looks c.before).inside in omega arith
 
-returns-2 : tie.Need-returns-2 invariant_loop decreases_loop
-returns-2 c =
+returns-then-end-first : tie.Need-returns-then-end-first invariant_loop decreases_loop
+returns-then-end-first c =
     let d = c.before in
     let t = at d in
     let s = (sought d).at in
@@ -112,11 +112,11 @@ returns-2 c =
     (walked_pages t.args.mark t.args.body.now t.args.count t.args.head (passes d)) t.pre.to_seek.some_pages
     (sought d) (omega arith))))
 
-loop-less : tie.Need-loop-smaller invariant_loop decreases_loop
-loop-less c = let d = c.before.before in let m = (looks d).limit in let e = (looks d).more in omega arith
+loop-from-smaller-then-end-next : tie.Need-loop-from-smaller-then-end-next invariant_loop decreases_loop
+loop-from-smaller-then-end-next c = let d = c.before.before in let m = (looks d).limit in let e = (looks d).more in omega arith
 
-loop-again : tie.Need-loop-preserved invariant_loop decreases_loop
-loop-again c =
+loop-from-preserved-then-end-next : tie.Need-loop-from-preserved-then-end-next invariant_loop decreases_loop
+loop-from-preserved-then-end-next c =
     let d = c.before.before in
     let t = at d in
     let s = (sought d).at in
@@ -129,14 +129,14 @@ loop-again c =
       sought = sought_past t.args.pages (end d) (first d) (os d) (sought d) (next d) some (omega arith) (omega arith)
           (looks d).none_between;
       judged = λ h. passes d;
-      long = (looked d).look.ensures.long;
+      long = (looked d).look-got.ensures.long;
     }
 
-loop-less-2 : tie.Need-loop-smaller-2 invariant_loop decreases_loop
-loop-less-2 c = let e = (looks c.before.before).more in omega arith
+loop-from-smaller : tie.Need-loop-from-smaller invariant_loop decreases_loop
+loop-from-smaller c = let e = (looks c.before.before).more in omega arith
 
-loop-again-2 : tie.Need-loop-preserved-2 invariant_loop decreases_loop
-loop-again-2 c =
+loop-from-preserved : tie.Need-loop-from-preserved invariant_loop decreases_loop
+loop-from-preserved c =
     let d = c.before.before in
     let s = (sought d).at in
     record {
@@ -144,12 +144,12 @@ loop-again-2 c =
       goes_on = record { some_pages = (at d).requires.to_seek.some_pages; begun = s; short = omega arith };
       sought = sought d;
       judged = λ h. passes d;
-      long = (looked d).look.ensures.long;
+      long = (looked d).look-got.ensures.long;
     }
 
-returns-3 : tie.Need-returns-3 invariant_loop decreases_loop
-returns-3 c =
-    let l = c.before.loop in
+returns : tie.Need-returns invariant_loop decreases_loop
+returns c =
+    let l = c.before.loop-from in
     let t = c.before.before.before in
     let some = t.requires.to_seek.some_pages in
     let passed = l.invariant.judged (let p = t.requires.to_seek.some_below in omega arith) in
@@ -160,20 +160,20 @@ returns-3 c =
     (walked_pages t.args.mark t.args.body.now t.args.count t.args.head passed) some l.invariant.sought
     l.invariant.goes_on.short (omega arith))))
 
-pub search-windows-spec : {M : Type 1} → statement M
-search-windows-spec =
+pub search_windows_spec : {M : Type 1} → statement M
+search_windows_spec =
     tie.close
     (tie.spec
     invariant_loop
     decreases_loop
-    loop-holds
-    look-requires
-    returns
-    sub-if2
-    mul-t17
-    returns-2
-    loop-less
-    loop-again
-    loop-less-2
-    loop-again-2
-    returns-3)
+    loop-from-init
+    look-got-requires
+    returns-then-not-got
+    overflow_sub-end
+    overflow_mul-result
+    returns-then-end-first
+    loop-from-smaller-then-end-next
+    loop-from-preserved-then-end-next
+    loop-from-smaller
+    loop-from-preserved
+    returns)

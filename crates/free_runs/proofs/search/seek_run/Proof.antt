@@ -7,37 +7,37 @@ use Rattle.free_runs.proofs.search.seek_run.Statement.{statement}
 use Rattle.free_runs.proofs.search.seek_run.Tie as tie
 
 -- The list was only judged.
-module _ (c : tie.After-pages-end) where
+module _ (c : tie.After-pages_end) where
   abbrev first : tie.Start
   first = c.before.before.before.before
 
-returns : tie.Need-returns
-returns c =
+returns-then-count-mark : tie.Need-returns-then-count-mark
+returns-then-count-mark c =
     let t = c.before.before in
     let a = t.args in
     sym (run_strays a.mark a.count a.body.now a.head a.pages
-    (ends_many a.mark a.count a.body.now a.head t.requires.some_below c.if1.true))
+    (ends_many a.mark a.count a.body.now a.head t.requires.some_below c.if-count-mark.true))
 
-find-run-requires : tie.Need-find-run-requires
-find-run-requires c κs = search rules
+find_run-requires : tie.Need-find_run-requires
+find_run-requires c κs = search rules
 
-returns-2 : tie.Need-returns-2
-returns-2 c = search rules
+returns-then-count-pages : tie.Need-returns-then-count-pages
+returns-then-count-pages c = search rules
 
-pages-end-requires : tie.Need-pages-end-requires
-pages-end-requires c κs = search rules
+pages_end-requires : tie.Need-pages_end-requires
+pages_end-requires c κs = search rules
 
-returns-3 : tie.Need-returns-3
-returns-3 c =
+returns-then-pages_end : tie.Need-returns-then-pages_end
+returns-then-pages_end c =
     let a = (first c.before).args in
     sym (run_short a.mark a.count a.body.now a.head a.pages (omega arith)
-    (sym c.before.pages_end.ensures ∙ c.if3.true))
+    (sym c.before.pages_end.ensures ∙ c.if-pages_end.true))
 
-returns-4 : tie.Need-returns-4
-returns-4 c =
+returns : tie.Need-returns
+returns c =
     let a = (first c.before).args in
-    sym (run_strays a.mark a.count a.body.now a.head a.pages (sym c.before.pages_end.ensures ∙ c.if3.false))
+    sym (run_strays a.mark a.count a.body.now a.head a.pages (sym c.before.pages_end.ensures ∙ c.if-pages_end.false))
 
-pub seek-run-spec : {M : Type 1} → statement M
-seek-run-spec =
-    tie.close (tie.spec returns find-run-requires returns-2 pages-end-requires returns-3 returns-4)
+pub seek_run_spec : {M : Type 1} → statement M
+seek_run_spec =
+    tie.close (tie.spec returns-then-count-mark find_run-requires returns-then-count-pages pages_end-requires returns-then-pages_end returns)

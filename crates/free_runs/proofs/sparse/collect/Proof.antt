@@ -13,74 +13,74 @@ record Walking (mark count : ℕ) (body : List ℕ) (head from end : ℕ) (kept 
   -- With it all pages of the window are kept.
   going : Collecting (walked count body head) from end kept taken to (walked left body at)
 
-abbrev invariant_loop : tie.invariant_loop
+abbrev invariant_loop : tie.invariant-loop-left
 invariant_loop body mark head count kept₀ from end at₀ left₀ taken₀ to₀ kept at left taken to =
     Walking mark count body head from end kept at left taken to
 
-abbrev decreases_loop : tie.decreases_loop
+abbrev decreases_loop : tie.decreases-loop-left
 decreases_loop body mark head count kept₀ from end at₀ left₀ taken₀ to₀ kept at left taken to = left
 
 -- a page more
-module _ (c : tie.After-keep invariant_loop decreases_loop) where
-  abbrev here : tie.At-loop invariant_loop decreases_loop
+module _ (c : tie.After-keep-got invariant_loop decreases_loop) where
+  abbrev here : tie.At-loop-left invariant_loop decreases_loop
   here = c.before.before.before
 
   abbrev first : tie.Start invariant_loop decreases_loop
   first = here.before.before
 
-loop-holds : tie.Need-loop-init invariant_loop decreases_loop
-loop-holds c =
+loop-left-init : tie.Need-loop-left-init invariant_loop decreases_loop
+loop-left-init c =
     let p = c.before.requires in
     record { passes = p.judged.passes; going = collect_none _ _ _ _ p.long p.forward }
 
-keep-requires : tie.Need-keep-requires invariant_loop decreases_loop
-keep-requires c κs =
-    let g = c.before.before.loop.invariant.going in
+keep-got-requires : tie.Need-keep-got-requires invariant_loop decreases_loop
+keep-got-requires c κs =
+    let g = c.before.before.loop-left.invariant.going in
     record { places = record { long = g.long; room = g.room }; forward = g.low }
 
-get-u64-requires : tie.Need-get-u64-requires invariant_loop decreases_loop
-get-u64-requires c κs =
-    let l = (here c).loop in
+get_u64-at-requires : tie.Need-get_u64-at-requires invariant_loop decreases_loop
+get_u64-at-requires c κs =
+    let l = (here c).loop-left in
     let t = first c in
     let s = (ends_page t.args.mark t.args.body.now l.left l.at (omega arith) l.inv.passes).0.ends in
     let p = t.pre.judged.within in
     omega arith
 
-sub-left : tie.Need-overflow-sub-left invariant_loop decreases_loop
-sub-left c = omega arith
+overflow_sub-left : tie.Need-overflow_sub-left invariant_loop decreases_loop
+overflow_sub-left c = omega arith
 
-loop-less : tie.Need-loop-smaller invariant_loop decreases_loop
-loop-less c = omega arith
+loop-left-smaller : tie.Need-loop-left-smaller invariant_loop decreases_loop
+loop-left-smaller c = omega arith
 
-loop-again : tie.Need-loop-preserved invariant_loop decreases_loop
-loop-again c =
-    let l = (here c.before).loop in
+loop-left-preserved : tie.Need-loop-left-preserved invariant_loop decreases_loop
+loop-left-preserved c =
+    let l = (here c.before).loop-left in
     let a = (first c.before).args in
     let s = ends_page a.mark a.body.now l.left l.at (omega arith) l.inv.passes in
-    rw c.get-u64.ensures
+    rw c.get_u64-at.ensures
     (record {
       passes = s.1;
       going = collect_one _ _ _ l.kept _ l.taken _ l.to _ l.at _ s.0.aligned
-          (rw (walked_step a.mark a.body.now l.left l.at (omega arith)) at l.inv.going) c.before.keep.ensures;
+          (rw (walked_step a.mark a.body.now l.left l.at (omega arith)) at l.inv.going) c.before.keep-got.ensures;
     })
 
 returns : tie.Need-returns invariant_loop decreases_loop
 unfolding walked
 returns c =
-    let l = c.before.loop in
+    let l = c.before.loop-left in
     let z : l.left ≡ 0 = omega arith in
     collect_done _ _ _ _ _ _ (rw z at l.invariant.going)
 
-pub collect-spec : {M : Type 1} → statement M
-collect-spec =
+pub collect_spec : {M : Type 1} → statement M
+collect_spec =
     tie.close
     (tie.spec
     invariant_loop
     decreases_loop
-    loop-holds
-    keep-requires
-    get-u64-requires
-    sub-left
-    loop-less
-    loop-again
+    loop-left-init
+    keep-got-requires
+    get_u64-at-requires
+    overflow_sub-left
+    loop-left-smaller
+    loop-left-preserved
     returns)

@@ -9,71 +9,71 @@ record Looking (kept₀ : List ℕ) (count end : ℕ) (kept : List ℕ) (i stay 
   inside : i ≤ count
   sifting : Sifting end kept₀ kept i stay
 
-abbrev invariant_loop : tie.invariant_loop
+abbrev invariant_loop : tie.invariant-loop-i
 invariant_loop kept₀ count end i₀ stay₀ kept i stay = Looking kept₀ count end kept i stay
 
-abbrev decreases_loop : tie.decreases_loop
+abbrev decreases_loop : tie.decreases-loop-i
 decreases_loop kept₀ count end i₀ stay₀ kept i stay = count - i
 
-loop-holds : tie.Need-loop-init invariant_loop decreases_loop
-loop-holds c = record { inside = omega arith; sifting = sift_none _ _ }
+loop-i-init : tie.Need-loop-i-init invariant_loop decreases_loop
+loop-i-init c = record { inside = omega arith; sifting = sift_none _ _ }
 
-mul-page : tie.Need-overflow-mul-page invariant_loop decreases_loop
-mul-page c = search rules
+offset_bounds-kept-i : tie.Need-offset_bounds-kept-i invariant_loop decreases_loop
+offset_bounds-kept-i c = search rules
 
-element-copy-out-page : tie.Need-element-copy-out-page invariant_loop decreases_loop
-element-copy-out-page c = search rules
+bounds-kept-i : tie.Need-bounds-kept-i invariant_loop decreases_loop
+bounds-kept-i c = search rules
 
-add-i : tie.Need-overflow-add-i invariant_loop decreases_loop
-add-i c = omega arith
+overflow_add-i : tie.Need-overflow_add-i invariant_loop decreases_loop
+overflow_add-i c = omega arith
 
-mul-kept : tie.Need-overflow-mul-kept invariant_loop decreases_loop
-mul-kept c = search rules
+offset_bounds-kept-stay : tie.Need-offset_bounds-kept-stay invariant_loop decreases_loop
+offset_bounds-kept-stay c = search rules
 
-element-write-kept : tie.Need-element-write-kept invariant_loop decreases_loop
-element-write-kept c = search rules
+bounds-kept-stay : tie.Need-bounds-kept-stay invariant_loop decreases_loop
+bounds-kept-stay c = search rules
 
-add-stay : tie.Need-overflow-add-stay invariant_loop decreases_loop
-add-stay c = search rules
+overflow_add-stay : tie.Need-overflow_add-stay invariant_loop decreases_loop
+overflow_add-stay c = search rules
 
-loop-less : tie.Need-loop-smaller invariant_loop decreases_loop
-loop-less c = omega arith
+loop-i-smaller-then-page-end : tie.Need-loop-i-smaller-then-page-end invariant_loop decreases_loop
+loop-i-smaller-then-page-end c = omega arith
 
-loop-again : tie.Need-loop-preserved invariant_loop decreases_loop
-loop-again c =
-    let l = c.before.before.before.loop in
+loop-i-preserved-then-page-end : tie.Need-loop-i-preserved-then-page-end invariant_loop decreases_loop
+loop-i-preserved-then-page-end c =
+    let l = c.before.before.before.loop-i in
     record { inside = omega arith; sifting = sift_keeps _ _ _ _ _ l.invariant.sifting (omega arith) }
 
-loop-less-2 : tie.Need-loop-smaller-2 invariant_loop decreases_loop
-loop-less-2 c = omega arith
+loop-i-smaller : tie.Need-loop-i-smaller invariant_loop decreases_loop
+loop-i-smaller c = omega arith
 
-loop-again-2 : tie.Need-loop-preserved-2 invariant_loop decreases_loop
-loop-again-2 c =
-    let l = c.before.before.before.loop in
+loop-i-preserved : tie.Need-loop-i-preserved invariant_loop decreases_loop
+loop-i-preserved c =
+    let l = c.before.before.before.loop-i in
     record { inside = omega arith; sifting = sift_drops _ _ _ _ _ l.invariant.sifting (omega arith) }
 
 returns : tie.Need-returns invariant_loop decreases_loop
 returns c =
-    let l = c.before.loop in
+    let l = c.before.loop-i in
     let a = c.before.before.args in
     let z : l.i ≡ a.count = omega arith in
     sift_done _ _ _ _ _ (subst (λ (i : ℕ). Sifting a.end a.kept.now l.auto i l.stay) z l.invariant.sifting)
 
-pub drop-behind-spec : {M : Type 1} → statement M
-drop-behind-spec =
+pub drop_behind_spec : {M : Type 1} → statement M
+drop_behind_spec =
     tie.close
     (tie.spec
     invariant_loop
     decreases_loop
-    loop-holds
-    mul-page
-    element-copy-out-page
-    add-i
-    mul-kept
-    element-write-kept
-    add-stay
-    loop-less
-    loop-again
-    loop-less-2
-    loop-again-2
+    loop-i-init
+    offset_bounds-kept-i
+    bounds-kept-i
+    overflow_add-i
+    offset_bounds-kept-stay
+    bounds-kept-stay
+    overflow_add-stay
+    loop-i-smaller-then-page-end
+    loop-i-preserved-then-page-end
+    loop-i-smaller
+    loop-i-preserved
     returns)

@@ -11,17 +11,17 @@ record Looking (kept : List ℕ) (count page end least i : ℕ) : Type 0 where
   high : page + least ≤ end
   so_far : LeastFrom kept i page end (page + least)
 
-abbrev invariant_loop : tie.invariant_loop
+abbrev invariant_loop : tie.invariant-loop-i
 invariant_loop kept count page end least₀ i₀ least i = Looking kept count page end least i
 
-abbrev decreases_loop : tie.decreases_loop
+abbrev decreases_loop : tie.decreases-loop-i
 decreases_loop kept count page end least₀ i₀ least i = count - i
 
-sub-least : tie.Need-overflow-sub-least invariant_loop decreases_loop
-sub-least c = omega arith
+overflow_sub-least : tie.Need-overflow_sub-least invariant_loop decreases_loop
+overflow_sub-least c = omega arith
 
-loop-holds : tie.Need-loop-init invariant_loop decreases_loop
-loop-holds c =
+loop-i-init : tie.Need-loop-i-init invariant_loop decreases_loop
+loop-i-init c =
     let a = c.args in
     let z : a.page + (a.end - a.page) ≡ a.end = omega arith in
     record {
@@ -30,31 +30,31 @@ loop-holds c =
       so_far = rw z (least_none a.kept.now a.page a.end c.requires.forward);
     }
 
-mul-x : tie.Need-overflow-mul-x invariant_loop decreases_loop
-mul-x c = search rules
+offset_bounds-kept-i : tie.Need-offset_bounds-kept-i invariant_loop decreases_loop
+offset_bounds-kept-i c = search rules
 
-element-copy-out-x : tie.Need-element-copy-out-x invariant_loop decreases_loop
-element-copy-out-x c = search rules
+bounds-kept-i : tie.Need-bounds-kept-i invariant_loop decreases_loop
+bounds-kept-i c = search rules
 
-wrapping-sub-u64-requires : tie.Need-wrapping-sub-u64-requires invariant_loop decreases_loop
-wrapping-sub-u64-requires c κs = search rules
+wrapping_sub_u64-ahead-requires : tie.Need-wrapping_sub_u64-ahead-requires invariant_loop decreases_loop
+wrapping_sub_u64-ahead-requires c κs = search rules
 
-lower-requires : tie.Need-lower-requires invariant_loop decreases_loop
-lower-requires c κs = search rules
+lower-least-requires : tie.Need-lower-least-requires invariant_loop decreases_loop
+lower-least-requires c κs = search rules
 
-add-i : tie.Need-overflow-add-i invariant_loop decreases_loop
-add-i c = omega arith
+overflow_add-i : tie.Need-overflow_add-i invariant_loop decreases_loop
+overflow_add-i c = omega arith
 
-loop-less : tie.Need-loop-smaller invariant_loop decreases_loop
-loop-less c = omega arith
+loop-i-smaller : tie.Need-loop-i-smaller invariant_loop decreases_loop
+loop-i-smaller c = omega arith
 
-loop-again : tie.Need-loop-preserved invariant_loop decreases_loop
-loop-again c =
+loop-i-preserved : tie.Need-loop-i-preserved invariant_loop decreases_loop
+loop-i-preserved c =
     let h = c.before.before.before.before in
-    let l = h.loop in
+    let l = h.loop-i in
     let a = h.before.args in
-    let w = c.before.wrapping-sub-u64 in
-    let e = c.lower.ensures in
+    let w = c.before.wrapping_sub_u64-ahead in
+    let e = c.lower-least.ensures in
     record {
       inside = omega arith;
       high = omega arith;
@@ -62,29 +62,29 @@ loop-again c =
           w.ensures);
     }
 
-add-result : tie.Need-overflow-add-result invariant_loop decreases_loop
-add-result c = omega arith
+overflow_add-result : tie.Need-overflow_add-result invariant_loop decreases_loop
+overflow_add-result c = omega arith
 
 returns : tie.Need-returns invariant_loop decreases_loop
 returns c =
-    let l = c.before.loop in
+    let l = c.before.loop-i in
     let z : l.i ≡ c.before.before.args.count = omega arith in
     rw z at l.invariant.so_far
 
-pub least-from-spec : {M : Type 1} → statement M
-least-from-spec =
+pub least_from_spec : {M : Type 1} → statement M
+least_from_spec =
     tie.close
     (tie.spec
     invariant_loop
     decreases_loop
-    sub-least
-    loop-holds
-    mul-x
-    element-copy-out-x
-    wrapping-sub-u64-requires
-    lower-requires
-    add-i
-    loop-less
-    loop-again
-    add-result
+    overflow_sub-least
+    loop-i-init
+    offset_bounds-kept-i
+    bounds-kept-i
+    wrapping_sub_u64-ahead-requires
+    lower-least-requires
+    overflow_add-i
+    loop-i-smaller
+    loop-i-preserved
+    overflow_add-result
     returns)

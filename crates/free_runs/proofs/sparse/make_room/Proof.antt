@@ -10,58 +10,58 @@ record Making (kept₀ : List ℕ) (count from end : ℕ) (kept : List ℕ) (cou
   room : count' ≤ 4096
   keeps : KeepsWindow from end kept₀ count kept count' end'
 
-abbrev invariant_loop : tie.invariant_loop
+abbrev invariant_loop : tie.invariant-loop-count
 invariant_loop kept₀ count from end count₀ end₀ kept count' end' = Making kept₀ count from end kept count' end'
 
-abbrev decreases_loop : tie.decreases_loop
+abbrev decreases_loop : tie.decreases-loop-count
 decreases_loop kept₀ count from end count₀ end₀ kept count' end' = end' - from
 
-loop-holds : tie.Need-loop-init invariant_loop decreases_loop
-loop-holds c = record { room = omega arith; keeps = kept_all _ _ _ _ c.requires.forward }
+loop-count-init : tie.Need-loop-count-init invariant_loop decreases_loop
+loop-count-init c = record { room = omega arith; keeps = kept_all _ _ _ _ c.requires.forward }
 
-sub-if1 : tie.Need-overflow-sub-if1 invariant_loop decreases_loop
-sub-if1 c = c.before.loop.invariant.keeps.low
+overflow_sub-end : tie.Need-overflow_sub-end invariant_loop decreases_loop
+overflow_sub-end c = c.before.loop-count.invariant.keeps.low
 
-returns : tie.Need-returns invariant_loop decreases_loop
-returns c = record { keeps = kept_nothing _ _ _ _ _ _ _ c.before.before.loop.invariant.keeps 0; free = omega arith }
+returns-then-end-from-le-WINDOW : tie.Need-returns-then-end-from-le-WINDOW invariant_loop decreases_loop
+returns-then-end-from-le-WINDOW c = record { keeps = kept_nothing _ _ _ _ _ _ _ c.before.before.loop-count.invariant.keeps 0; free = omega arith }
 
-sub-end : tie.Need-overflow-sub-end invariant_loop decreases_loop
-sub-end c = c.before.before.loop.invariant.keeps.low
+overflow_sub-end-in-loop-count : tie.Need-overflow_sub-end-in-loop-count invariant_loop decreases_loop
+overflow_sub-end-in-loop-count c = c.before.before.loop-count.invariant.keeps.low
 
-sub-end-2 : tie.Need-overflow-sub-end-2 invariant_loop decreases_loop
-sub-end-2 c = let l = c.before.before.loop.invariant.keeps.low in omega arith
+overflow_sub-end-in-loop-count-2 : tie.Need-overflow_sub-end-in-loop-count-2 invariant_loop decreases_loop
+overflow_sub-end-in-loop-count-2 c = let l = c.before.before.loop-count.invariant.keeps.low in omega arith
 
-drop-behind-requires : tie.Need-drop-behind-requires invariant_loop decreases_loop
-drop-behind-requires c κs =
-    let l = c.before.before.before.loop in
+drop_behind-count-requires : tie.Need-drop_behind-count-requires invariant_loop decreases_loop
+drop_behind-count-requires c κs =
+    let l = c.before.before.before.loop-count in
     record { long = l.invariant.keeps.long ∙ c.before.before.before.before.requires.places.long; room = l.invariant.room }
 
-loop-less : tie.Need-loop-smaller invariant_loop decreases_loop
-loop-less c = let l = c.before.before.before.before.loop.invariant.keeps.low in omega arith
+loop-count-smaller : tie.Need-loop-count-smaller invariant_loop decreases_loop
+loop-count-smaller c = let l = c.before.before.before.before.loop-count.invariant.keeps.low in omega arith
 
-loop-again : tie.Need-loop-preserved invariant_loop decreases_loop
-loop-again c =
-    let l = c.before.before.before.before.loop in
-    let b = c.drop-behind.ensures in
+loop-count-preserved : tie.Need-loop-count-preserved invariant_loop decreases_loop
+loop-count-preserved c =
+    let l = c.before.before.before.before.loop-count in
+    let b = c.drop_behind-count.ensures in
     let f = b.fewer in
     let low = l.invariant.keeps.low in
     record { room = omega arith; keeps = kept_below _ _ _ _ _ _ _ l.invariant.keeps _ _ _ (omega arith) (omega arith) b }
 
-returns-2 : tie.Need-returns-2 invariant_loop decreases_loop
-returns-2 c = record { keeps = c.before.loop.invariant.keeps; free = omega arith }
+returns : tie.Need-returns invariant_loop decreases_loop
+returns c = record { keeps = c.before.loop-count.invariant.keeps; free = omega arith }
 
-pub make-room-spec : {M : Type 1} → statement M
-make-room-spec =
+pub make_room_spec : {M : Type 1} → statement M
+make_room_spec =
     tie.close
     (tie.spec
     invariant_loop
     decreases_loop
-    loop-holds
-    sub-if1
-    returns
-    sub-end
-    sub-end-2
-    drop-behind-requires
-    loop-less
-    loop-again
-    returns-2)
+    loop-count-init
+    overflow_sub-end
+    returns-then-end-from-le-WINDOW
+    overflow_sub-end-in-loop-count
+    overflow_sub-end-in-loop-count-2
+    drop_behind-count-requires
+    loop-count-smaller
+    loop-count-preserved
+    returns)

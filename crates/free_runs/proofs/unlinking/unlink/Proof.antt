@@ -18,10 +18,10 @@ record Linking (body₀ : List ℕ) (mark head count from end : ℕ) (body : Lis
   -- Linking what is left of it gives the whole.
   links : relinked (left_of from end (walked left body at)) body ≡ relinked (left_of from end (walked count body₀ head)) body₀
 
-abbrev invariant_loop : tie.invariant_loop
+abbrev invariant_loop : tie.invariant-loop-left
 invariant_loop body₀ mark head count from end top at₀ left₀ body at left = Linking body₀ mark head count from end body at left
 
-abbrev decreases_loop : tie.decreases_loop
+abbrev decreases_loop : tie.decreases-loop-left
 decreases_loop body₀ mark head count from end top at₀ left₀ body at left = left
 
 -- what is asked at the start
@@ -30,24 +30,24 @@ module _ (c : tie.Start invariant_loop decreases_loop) where
   asked = let (within, passes) = c.requires in record { within = within; passes = passes }
 
 -- a page of what is left
-module _ (c : tie.In-loop invariant_loop decreases_loop) where
-  abbrev here : tie.At-loop invariant_loop decreases_loop
+module _ (c : tie.In-loop-left invariant_loop decreases_loop) where
+  abbrev here : tie.At-loop-left invariant_loop decreases_loop
   here = c.before
 
   abbrev s : tie.Start invariant_loop decreases_loop
   s = here.before.before.before.before
 
   abbrev at : ℕ
-  at = here.loop.at
+  at = here.loop-left.at
 
   abbrev left : ℕ
-  left = here.loop.left
+  left = here.loop-left.left
 
   abbrev body : List ℕ
-  body = here.loop.body
+  body = here.loop-left.body
 
   abbrev inv : Linking s.args.body.now s.args.mark s.args.head s.args.count s.args.from s.args.end body at left
-  inv = here.loop.inv
+  inv = here.loop-left.invariant
 
   more : 0 < left
   more = omega arith
@@ -58,59 +58,59 @@ module _ (c : tie.In-loop invariant_loop decreases_loop) where
   inside : at + 8 ≤ length body
   inside = let e = (ends_page s.args.mark body left at more inv.passes).0.ends in let w = within in omega arith
 
-pass-over-requires : tie.Need-pass-over-requires invariant_loop decreases_loop
-pass-over-requires c κs = asked c.before.before
+pass_over-first-requires : tie.Need-pass_over-first-requires invariant_loop decreases_loop
+pass_over-first-requires c κs = asked c.before.before
 
-loop-holds : tie.Need-loop-init invariant_loop decreases_loop
-loop-holds c =
-    let s = c.pass-over.ensures in
+loop-left-init : tie.Need-loop-left-init invariant_loop decreases_loop
+loop-left-init c =
+    let s = c.pass_over-first.ensures in
     let a = c.before.before.before.args in
     record { long = refl; passes = s.ends; stays = s.stays; links = ap (λ (os : List ℕ). relinked os a.body.now) s.same }
 
-get-u64-requires : tie.Need-get-u64-requires invariant_loop decreases_loop
-get-u64-requires c κs = inside c.before
+get_u64-link-requires : tie.Need-get_u64-link-requires invariant_loop decreases_loop
+get_u64-link-requires c κs = inside c.before
 
-sub-pass-over : tie.Need-overflow-sub-pass-over invariant_loop decreases_loop
-sub-pass-over c = omega arith
+overflow_sub-left : tie.Need-overflow_sub-left invariant_loop decreases_loop
+overflow_sub-left c = omega arith
 
-pass-over-requires-2 : tie.Need-pass-over-requires-2 invariant_loop decreases_loop
-pass-over-requires-2 c κs =
+pass_over-over-requires : tie.Need-pass_over-over-requires invariant_loop decreases_loop
+pass_over-over-requires c κs =
     let t = c.before.before.before in
     record {
       within = within t;
-      passes = rw c.before.get-u64.ensures (ends_page _ _ (left t) (at t) (more t) (inv t).passes).1;
+      passes = rw c.before.get_u64-link.ensures (ends_page _ _ (left t) (at t) (more t) (inv t).passes).1;
     }
 
 relink-requires : tie.Need-relink-requires invariant_loop decreases_loop
 relink-requires c κs =
     let g = c.before.before.before in
-    record { inside = inside g.before.before; link_is = g.get-u64.ensures }
+    record { inside = inside g.before.before; link_is = g.get_u64-link.ensures }
 
 -- a turn
-module _ (c : tie.After-slice-known2 invariant_loop decreases_loop) where
-  abbrev gone : tie.After-pass-over2 invariant_loop decreases_loop
+module _ (c : tie.After-slice_known-in-loop-left-1 invariant_loop decreases_loop) where
+  abbrev gone : tie.After-pass_over-over invariant_loop decreases_loop
   gone = c.before.before.before.before
 
-  abbrev turn : tie.In-loop invariant_loop decreases_loop
+  abbrev turn : tie.In-loop-left invariant_loop decreases_loop
   turn = gone.before.before.before.before
 
   abbrev to : ℕ
-  to = gone.pass-over2.result.at
+  to = gone.pass_over-over.result.at
 
   abbrev rest : ℕ
-  rest = gone.pass-over2.result.left
+  rest = gone.pass_over-over.result.left
 
   over : PassedOver (s turn).args.mark (body turn) (s turn).args.from (s turn).args.end (next_of (body turn) (at turn)) (left turn - 1)
       to rest
   over =
       subst (λ (o : ℕ). PassedOver (s turn).args.mark (body turn) (s turn).args.from (s turn).args.end o (left turn - 1) to rest)
-      gone.before.before.get-u64.ensures gone.pass-over2.ensures
+      gone.before.before.get_u64-link.ensures gone.pass_over-over.ensures
 
-loop-less : tie.Need-loop-smaller invariant_loop decreases_loop
-loop-less c = let f = (over c).fewer in let m = more (turn c) in omega arith
+loop-left-smaller : tie.Need-loop-left-smaller invariant_loop decreases_loop
+loop-left-smaller c = let f = (over c).fewer in let m = more (turn c) in omega arith
 
-loop-again : tie.Need-loop-preserved invariant_loop decreases_loop
-loop-again c =
+loop-left-preserved : tie.Need-loop-left-preserved invariant_loop decreases_loop
+loop-left-preserved c =
     let t = turn c in
     let a = (s t).args in
     let passes = (inv t).passes in
@@ -125,32 +125,32 @@ loop-again c =
           ∙ (inv t).links;
     })
 
-same_length : tie.Need-same-length invariant_loop decreases_loop
-same_length c = search rules
+shape_of-body : tie.Need-shape_of-body invariant_loop decreases_loop
+shape_of-body c = search rules
 
 returns : tie.Need-returns invariant_loop decreases_loop
 unfolding walked left_of relinked
 returns c =
-    let l = c.before.loop in
+    let l = c.before.loop-left in
     let z : l.left ≡ 0 = omega arith in
-    let k = c.before.before.pass-over.ensures in (
+    let k = c.before.before.pass_over-first.ensures in (
       sym (skipped_top _ _ _ _ _ _ _ _ k) ∙ ap top_of k.same,
       rw z at l.invariant.links,
     )
 
-pub unlink-spec : {M : Type 1} → statement M
-unlink-spec =
+pub unlink_spec : {M : Type 1} → statement M
+unlink_spec =
     tie.close
     (tie.spec
     invariant_loop
     decreases_loop
-    pass-over-requires
-    loop-holds
-    get-u64-requires
-    sub-pass-over
-    pass-over-requires-2
+    pass_over-first-requires
+    loop-left-init
+    get_u64-link-requires
+    overflow_sub-left
+    pass_over-over-requires
     relink-requires
-    loop-less
-    loop-again
-    same_length
+    loop-left-smaller
+    loop-left-preserved
+    shape_of-body
     returns)

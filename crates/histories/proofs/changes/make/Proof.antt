@@ -3,53 +3,53 @@ use Rattle.std.proofs.Common.{◌≡◌, ◌-◌, ◌≤◌, length, rules}
 use Rattle.histories.proofs.changes.make.Statement.{statement}
 use Rattle.histories.proofs.changes.make.Tie as tie
 
-abbrev invariant_loop : tie.invariant_loop
+abbrev invariant_loop : tie.invariant-loop-at
 invariant_loop s body₀ words₀ from at₀ body words at = (length body ≡ length body₀) × (length words ≡ length words₀) × (at ≤ length s)
 
-abbrev decreases_loop : tie.decreases_loop
+abbrev decreases_loop : tie.decreases-loop-at
 decreases_loop s body₀ words₀ from at₀ body words at = length s - at
 
-loop-holds : tie.Need-loop-init invariant_loop decreases_loop
-loop-holds c = search rules
+loop-at-init : tie.Need-loop-at-init invariant_loop decreases_loop
+loop-at-init c = search rules
 
-until-requires : tie.Need-until-requires invariant_loop decreases_loop
-until-requires c κs = search rules
+until-item-requires : tie.Need-until-item-requires invariant_loop decreases_loop
+until-item-requires c κs = search rules
 
 change-requires : tie.Need-change-requires invariant_loop decreases_loop
 change-requires c κs = search rules
 
-sub-if1 : tie.Need-overflow-sub-if1 invariant_loop decreases_loop
-sub-if1 c = search rules
+overflow_sub-s : tie.Need-overflow_sub-s invariant_loop decreases_loop
+overflow_sub-s c = search rules
 
-same_length : tie.Need-same-length invariant_loop decreases_loop
-same_length c = search rules
+shape_of-body-then-s-at : tie.Need-shape_of-body-then-s-at invariant_loop decreases_loop
+shape_of-body-then-s-at c = search rules
 
-same-length-2 : tie.Need-same-length-2 invariant_loop decreases_loop
-same-length-2 c = search rules
+shape_of-words-then-s-at : tie.Need-shape_of-words-then-s-at invariant_loop decreases_loop
+shape_of-words-then-s-at c = search rules
+
+returns-then-s-at : tie.Need-returns-then-s-at invariant_loop decreases_loop
+returns-then-s-at c = search rules
+
+overflow_add-at : tie.Need-overflow_add-at invariant_loop decreases_loop
+overflow_add-at c = search rules
+
+overflow_add-at-in-loop-at : tie.Need-overflow_add-at-in-loop-at invariant_loop decreases_loop
+overflow_add-at-in-loop-at c = search rules
+
+loop-at-smaller : tie.Need-loop-at-smaller invariant_loop decreases_loop
+loop-at-smaller c = search rules
+
+loop-at-preserved : tie.Need-loop-at-preserved invariant_loop decreases_loop
+loop-at-preserved c = search rules
+
+shape_of-body : tie.Need-shape_of-body invariant_loop decreases_loop
+shape_of-body c = search rules
+
+shape_of-words : tie.Need-shape_of-words invariant_loop decreases_loop
+shape_of-words c = search rules
 
 returns : tie.Need-returns invariant_loop decreases_loop
 returns c = search rules
-
-add_at : tie.Need-overflow-add-at invariant_loop decreases_loop
-add_at c = search rules
-
-add-at-2 : tie.Need-overflow-add-at-2 invariant_loop decreases_loop
-add-at-2 c = search rules
-
-loop-less : tie.Need-loop-smaller invariant_loop decreases_loop
-loop-less c = search rules
-
-loop-again : tie.Need-loop-preserved invariant_loop decreases_loop
-loop-again c = search rules
-
-same-length-3 : tie.Need-same-length-3 invariant_loop decreases_loop
-same-length-3 c = search rules
-
-same-length-4 : tie.Need-same-length-4 invariant_loop decreases_loop
-same-length-4 c = search rules
-
-returns-2 : tie.Need-returns-2 invariant_loop decreases_loop
-returns-2 c = search rules
 
 pub make_spec : {M : Type 1} → statement M
 make_spec =
@@ -57,17 +57,17 @@ make_spec =
     (tie.spec
     invariant_loop
     decreases_loop
-    loop-holds
-    until-requires
+    loop-at-init
+    until-item-requires
     change-requires
-    sub-if1
-    same_length
-    same-length-2
-    returns
-    add_at
-    add-at-2
-    loop-less
-    loop-again
-    same-length-3
-    same-length-4
-    returns-2)
+    overflow_sub-s
+    shape_of-body-then-s-at
+    shape_of-words-then-s-at
+    returns-then-s-at
+    overflow_add-at
+    overflow_add-at-in-loop-at
+    loop-at-smaller
+    loop-at-preserved
+    shape_of-body
+    shape_of-words
+    returns)

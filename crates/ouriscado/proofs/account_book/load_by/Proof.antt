@@ -13,7 +13,7 @@ use Rattle.ouriscado.proofs.account_book.load_by.Statement.{statement}
 use Rattle.ouriscado.proofs.account_book.load_by.Tie as tie
 
 -- the book, and its load by a desk
-module _ (j : tie.After-judge-call) where
+module _ (j : tie.After-judge_call-refusal) where
   abbrev start : tie.Start
   start = j.before.before.before.before.before.before.before.before
 
@@ -26,55 +26,55 @@ module _ (j : tie.After-judge-call) where
   abbrev call : ℕ → Answer (Outcome Loaded)
   call desk = loads start.args.fit desk b start.args.key start.args.fks.now
 
-judge-call-requires : tie.Need-judge-call-requires
-judge-call-requires c κs = search rules
+judge_call-refusal-requires : tie.Need-judge_call-refusal-requires
+judge_call-refusal-requires c κs = search rules
 
-put-loaded-requires : tie.Need-put-loaded-requires
-put-loaded-requires c κs = search rules
+put_loaded-requires : tie.Need-put_loaded-requires
+put_loaded-requires c κs = search rules
 
-same_length : tie.Need-same-length
-same_length c = search rules
+shape_of-body-then-refusal-ne0 : tie.Need-shape_of-body-then-refusal-ne0
+shape_of-body-then-refusal-ne0 c = search rules
 
-returns : tie.Need-returns
+returns-then-refusal-ne0 : tie.Need-returns-then-refusal-ne0
 unfolding book_after answered
-returns c =
+returns-then-refusal-ne0 c =
     let j = c.before.before.before in
-    let told = j.judge-call.ensures (start j).args.heads.now (start j).args.free.now refl in
-    let e = turned_back (lent j) (b j) (start j).args.key (call j) told c.before.before.if1.true in
-    let h = c.put-loaded.ensures in
+    let told = j.judge_call-refusal.ensures (start j).args.heads.now (start j).args.free.now refl in
+    let e = turned_back (lent j) (b j) (start j).args.key (call j) told c.before.before.if-refusal-ne0.true in
+    let h = c.put_loaded.ensures in
     rw e (h.0, (refl, (h.1, λ z. refl)))
 
-desk-of-requires : tie.Need-desk-of-requires
-desk-of-requires c κs = search rules
+desk_of-desk-requires : tie.Need-desk_of-desk-requires
+desk_of-desk-requires c κs = search rules
 
-core-load-by-requires : tie.Need-core-load-by-requires
-core-load-by-requires c κs = search rules
+core_load_by-requires : tie.Need-core_load_by-requires
+core_load_by-requires c κs = search rules
 
-same-length-2 : tie.Need-same-length-2
-same-length-2 c = search rules
+shape_of-body : tie.Need-shape_of-body
+shape_of-body c = search rules
 
-same-length-3 : tie.Need-same-length-3
-same-length-3 c = search rules
+shape_of-heads : tie.Need-shape_of-heads
+shape_of-heads c = search rules
 
-returns-2 : tie.Need-returns-2
-returns-2 c =
+returns : tie.Need-returns
+returns c =
     let done = c.before.before.before.before in
     let desk = done.before.before.before.before.before.before.before in
     let j = desk.before.before in
-    let told = j.judge-call.ensures (start j).args.heads.now (start j).args.free.now refl in
-    let e = made_for (lent j) (b j) (start j).args.key (call j) told desk.before.if1.false desk.desk-of.ensures in
-    rw e done.core-load-by.ensures
+    let told = j.judge_call-refusal.ensures (start j).args.heads.now (start j).args.free.now refl in
+    let e = made_for (lent j) (b j) (start j).args.key (call j) told desk.before.if-refusal-ne0.false desk.desk_of-desk.ensures in
+    rw e done.core_load_by.ensures
 
-pub load-by-spec : {M : Type 1} → statement M
-load-by-spec =
+pub load_by_spec : {M : Type 1} → statement M
+load_by_spec =
     tie.close
     (tie.spec
-    judge-call-requires
-    put-loaded-requires
-    same_length
-    returns
-    desk-of-requires
-    core-load-by-requires
-    same-length-2
-    same-length-3
-    returns-2)
+    judge_call-refusal-requires
+    put_loaded-requires
+    shape_of-body-then-refusal-ne0
+    returns-then-refusal-ne0
+    desk_of-desk-requires
+    core_load_by-requires
+    shape_of-body
+    shape_of-heads
+    returns)

@@ -13,7 +13,7 @@ use Rattle.ouriscado.proofs.account_book.ouriscado_book_append.Statement.{statem
 use Rattle.ouriscado.proofs.account_book.ouriscado_book_append.Tie as tie
 
 -- the book, and its append by a desk
-module _ (j : tie.After-judge-call) where
+module _ (j : tie.After-judge_call-refusal) where
   abbrev start : tie.Start
   start = j.before.before.before.before.before.before.before
 
@@ -26,55 +26,55 @@ module _ (j : tie.After-judge-call) where
   abbrev call : ℕ → Answer (Outcome Appended)
   call desk = appends desk b start.args.key start.args.fk
 
-judge-call-requires : tie.Need-judge-call-requires
-judge-call-requires c κs = search rules
+judge_call-refusal-requires : tie.Need-judge_call-refusal-requires
+judge_call-refusal-requires c κs = search rules
 
-put-appended-requires : tie.Need-put-appended-requires
-put-appended-requires c κs = search rules
+put_appended-requires : tie.Need-put_appended-requires
+put_appended-requires c κs = search rules
 
-same_length : tie.Need-same-length
-same_length c = search rules
+shape_of-body-then-refusal-ne0 : tie.Need-shape_of-body-then-refusal-ne0
+shape_of-body-then-refusal-ne0 c = search rules
 
-returns : tie.Need-returns
+returns-then-refusal-ne0 : tie.Need-returns-then-refusal-ne0
 unfolding book_after answered
-returns c =
+returns-then-refusal-ne0 c =
     let j = c.before.before.before.before.before.before.before in
-    let told = j.judge-call.ensures (start j).args.heads.now (start j).args.free.now refl in
-    let e = turned_back (lent j) (b j) (start j).args.key (call j) told c.before.before.before.before.before.before.if1.true in
-    let h = c.put-appended.ensures in
+    let told = j.judge_call-refusal.ensures (start j).args.heads.now (start j).args.free.now refl in
+    let e = turned_back (lent j) (b j) (start j).args.key (call j) told c.before.before.before.before.before.before.if-refusal-ne0.true in
+    let h = c.put_appended.ensures in
     rw e (h.0, (refl, (h.1.0, (h.1.1.0, (h.1.1.1.0, (h.1.1.1.1.0, (h.1.1.1.1.1, λ z. refl)))))))
 
-desk-of-requires : tie.Need-desk-of-requires
-desk-of-requires c κs = search rules
+desk_of-desk-requires : tie.Need-desk_of-desk-requires
+desk_of-desk-requires c κs = search rules
 
-ouriscado-core-append-requires : tie.Need-ouriscado-core-append-requires
-ouriscado-core-append-requires c κs = search rules
+ouriscado_core_append-requires : tie.Need-ouriscado_core_append-requires
+ouriscado_core_append-requires c κs = search rules
 
-same-length-2 : tie.Need-same-length-2
-same-length-2 c = search rules
+shape_of-body : tie.Need-shape_of-body
+shape_of-body c = search rules
 
-same-length-3 : tie.Need-same-length-3
-same-length-3 c = search rules
+shape_of-heads : tie.Need-shape_of-heads
+shape_of-heads c = search rules
 
-returns-2 : tie.Need-returns-2
-returns-2 c =
+returns : tie.Need-returns
+returns c =
     let done = c.before.before.before.before in
     let desk = done.before.before.before.before.before.before.before.before.before.before.before in
     let j = desk.before.before in
-    let told = j.judge-call.ensures (start j).args.heads.now (start j).args.free.now refl in
-    let e = made_for (lent j) (b j) (start j).args.key (call j) told desk.before.if1.false desk.desk-of.ensures in
-    rw e done.ouriscado-core-append.ensures
+    let told = j.judge_call-refusal.ensures (start j).args.heads.now (start j).args.free.now refl in
+    let e = made_for (lent j) (b j) (start j).args.key (call j) told desk.before.if-refusal-ne0.false desk.desk_of-desk.ensures in
+    rw e done.ouriscado_core_append.ensures
 
-pub ouriscado-book-append-spec : {M : Type 1} → statement M
-ouriscado-book-append-spec =
+pub ouriscado_book_append_spec : {M : Type 1} → statement M
+ouriscado_book_append_spec =
     tie.close
     (tie.spec
-    judge-call-requires
-    put-appended-requires
-    same_length
-    returns
-    desk-of-requires
-    ouriscado-core-append-requires
-    same-length-2
-    same-length-3
-    returns-2)
+    judge_call-refusal-requires
+    put_appended-requires
+    shape_of-body-then-refusal-ne0
+    returns-then-refusal-ne0
+    desk_of-desk-requires
+    ouriscado_core_append-requires
+    shape_of-body
+    shape_of-heads
+    returns)

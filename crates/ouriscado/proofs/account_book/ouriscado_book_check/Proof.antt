@@ -10,8 +10,8 @@ use Rattle.ouriscado.proofs.LawsBook.{kept_work}
 use Rattle.ouriscado.proofs.account_book.ouriscado_book_check.Statement.{statement}
 use Rattle.ouriscado.proofs.account_book.ouriscado_book_check.Tie as tie
 
-judge-start-requires : tie.Need-judge-start-requires
-judge-start-requires c κs = search rules
+judge_start-answer-requires : tie.Need-judge_start-answer-requires
+judge_start-answer-requires c κs = search rules
 
 ground-requires : tie.Need-ground-requires
 ground-requires c κs = search rules
@@ -25,14 +25,14 @@ lost-requires c κs = search rules
 refusal-requires : tie.Need-refusal-requires
 refusal-requires c κs = search rules
 
-same_length : tie.Need-same-length
-same_length c = search rules
+shape_of-work : tie.Need-shape_of-work
+shape_of-work c = search rules
 
 returns : tie.Need-returns
 returns c =
     let j = c.before.before.before.before.before.before in
     let a = j.before.before.before.before.before.before.before.args in
-    let e = j.judge-start.ensures in
+    let e = j.judge_start-answer.ensures in
     let number = c.refusal.ensures ∙ ap refusal_of e.0 in (
       number,
       (
@@ -50,14 +50,14 @@ returns c =
       ),
     )
 
-pub ouriscado-book-check-spec : {M : Type 1} → statement M
-ouriscado-book-check-spec =
+pub ouriscado_book_check_spec : {M : Type 1} → statement M
+ouriscado_book_check_spec =
     tie.close
     (tie.spec
-    judge-start-requires
+    judge_start-answer-requires
     ground-requires
     which-requires
     lost-requires
     refusal-requires
-    same_length
+    shape_of-work
     returns)

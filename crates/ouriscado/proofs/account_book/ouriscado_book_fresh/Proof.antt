@@ -8,26 +8,26 @@ use borrow.Author.Rules.{rules}
 use Rattle.ouriscado.proofs.account_book.ouriscado_book_fresh.Statement.{statement}
 use Rattle.ouriscado.proofs.account_book.ouriscado_book_fresh.Tie as tie
 
-fresh-requires : tie.Need-fresh-requires
-fresh-requires c κs = search rules
+fresh-answer-requires : tie.Need-fresh-answer-requires
+fresh-answer-requires c κs = search rules
 
 refusal-requires : tie.Need-refusal-requires
 refusal-requires c κs = search rules
 
-same_length : tie.Need-same-length
-same_length c = search rules
+shape_of-heads : tie.Need-shape_of-heads
+shape_of-heads c = search rules
 
 returns : tie.Need-returns
 returns c =
-    let e = c.before.before.before.fresh.ensures in
+    let e = c.before.before.before.fresh-answer.ensures in
     let number = c.refusal.ensures ∙ ap refusal_of e.0 ∙ number_answered (λ (b : Book). tt) _ in
     (number, (e.1, kept_fresh _ number e.1))
 
-pub ouriscado-book-fresh-spec : {M : Type 1} → statement M
-ouriscado-book-fresh-spec =
+pub ouriscado_book_fresh_spec : {M : Type 1} → statement M
+ouriscado_book_fresh_spec =
     tie.close
     (tie.spec
-    fresh-requires
+    fresh-answer-requires
     refusal-requires
-    same_length
+    shape_of-heads
     returns)

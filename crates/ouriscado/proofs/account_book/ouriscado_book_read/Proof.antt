@@ -15,7 +15,7 @@ use Rattle.ouriscado.proofs.account_book.ouriscado_book_read.Statement.{statemen
 use Rattle.ouriscado.proofs.account_book.ouriscado_book_read.Tie as tie
 
 -- the book, whatever its free heads are, and its read
-module _ (j : tie.After-judge-call) where
+module _ (j : tie.After-judge_call-refusal) where
   abbrev start : tie.Start
   start = j.before.before.before.before.before
 
@@ -29,34 +29,34 @@ module _ (j : tie.After-judge-call) where
     abbrev call : ℕ → Answer Listed
     call desk = reads b start.args.key (length start.args.out.now)
 
-judge-call-requires : tie.Need-judge-call-requires
-judge-call-requires c κs = search rules
+judge_call-refusal-requires : tie.Need-judge_call-refusal-requires
+judge_call-refusal-requires c κs = search rules
 
-put-listed-requires : tie.Need-put-listed-requires
-put-listed-requires c κs = search rules
+put_listed-requires : tie.Need-put_listed-requires
+put_listed-requires c κs = search rules
 
-returns : tie.Need-returns
+returns-then-refusal-ne0 : tie.Need-returns-then-refusal-ne0
 unfolding list_after answered
-returns c =
+returns-then-refusal-ne0 c =
     let j = c.before.before.before.before.before in
-    let some' = c.before.before.before.before.if1.true in
-    let h = c.put-listed.ensures in (
+    let some' = c.before.before.before.before.if-refusal-ne0.true in
+    let h = c.put_listed.ensures in (
       λ free. rw (turned_back (lent j) (b j free) (start j).args.key (call j free)
-          (j.judge-call.ensures (start j).args.heads.now free refl) some')
+          (j.judge_call-refusal.ensures (start j).args.heads.now free refl) some')
           h.0,
       (
         λ free. rw (turned_back (lent j) (b j free) (start j).args.key (call j free)
-            (j.judge-call.ensures (start j).args.heads.now free refl)
+            (j.judge_call-refusal.ensures (start j).args.heads.now free refl)
             some') refl,
         (
           λ free. rw (turned_back (lent j) (b j free) (start j).args.key (call j free)
-              (j.judge-call.ensures (start j).args.heads.now free refl) some') h.1.0,
+              (j.judge_call-refusal.ensures (start j).args.heads.now free refl) some') h.1.0,
           (
             λ free. rw (turned_back (lent j) (b j free) (start j).args.key (call j free)
-                (j.judge-call.ensures (start j).args.heads.now free refl) some') h.1.1.0,
+                (j.judge_call-refusal.ensures (start j).args.heads.now free refl) some') h.1.1.0,
             (
               λ free. rw (turned_back (lent j) (b j free) (start j).args.key (call j free)
-                  (j.judge-call.ensures (start j).args.heads.now free refl) some') h.1.1.1,
+                  (j.judge_call-refusal.ensures (start j).args.heads.now free refl) some') h.1.1.1,
               λ z. refl,
             ),
           ),
@@ -64,45 +64,45 @@ returns c =
       ),
     )
 
-ouriscado-core-read-requires : tie.Need-ouriscado-core-read-requires
-ouriscado-core-read-requires c κs = search rules
+ouriscado_core_read-requires : tie.Need-ouriscado_core_read-requires
+ouriscado_core_read-requires c κs = search rules
 
-same_length : tie.Need-same-length
-same_length c = search rules
+shape_of-out : tie.Need-shape_of-out
+shape_of-out c = search rules
 
 -- the call is made
-module _ (j : tie.After-judge-call) (none' : j.judge-call.result ≡ 0) (free : List ℕ) where
+module _ (j : tie.After-judge_call-refusal) (none' : j.judge_call-refusal.result ≡ 0) (free : List ℕ) where
   made : reads_with (lent j) (b j free) (start j).args.key (length (start j).args.out.now) ≡ call j free 0
   made = made_for (lent j) (b j free) (start j).args.key (call j free) {desk = desk_of (lent j) (start j).args.key}
-      (j.judge-call.ensures (start j).args.heads.now free refl) none' refl
+      (j.judge_call-refusal.ensures (start j).args.heads.now free refl) none' refl
 
-returns-2 : tie.Need-returns-2
-returns-2 c =
+returns : tie.Need-returns
+returns c =
     let done = c.before.before in
     let other = done.before.before.before.before.before in
     let j = other.before in
-    let h = done.ouriscado-core-read.ensures in
+    let h = done.ouriscado_core_read.ensures in
     let k : List ℕ = (start j).args.counts.now in (
-      λ free. rw (made j other.if1.false free) (h.0 free k),
+      λ free. rw (made j other.if-refusal-ne0.false free) (h.0 free k),
       (
-        λ free. rw (made j other.if1.false free) (h.1.0 free k),
+        λ free. rw (made j other.if-refusal-ne0.false free) (h.1.0 free k),
         (
-          λ free. rw (made j other.if1.false free) (h.1.1.0 free k),
+          λ free. rw (made j other.if-refusal-ne0.false free) (h.1.1.0 free k),
           (
-            λ free. rw (made j other.if1.false free) (h.1.1.1.0 free k),
-            (λ free. rw (made j other.if1.false free) (h.1.1.1.1.0 free k), h.1.1.1.1.1),
+            λ free. rw (made j other.if-refusal-ne0.false free) (h.1.1.1.0 free k),
+            (λ free. rw (made j other.if-refusal-ne0.false free) (h.1.1.1.1.0 free k), h.1.1.1.1.1),
           ),
         ),
       ),
     )
 
-pub ouriscado-book-read-spec : {M : Type 1} → statement M
-ouriscado-book-read-spec =
+pub ouriscado_book_read_spec : {M : Type 1} → statement M
+ouriscado_book_read_spec =
     tie.close
     (tie.spec
-    judge-call-requires
-    put-listed-requires
-    returns
-    ouriscado-core-read-requires
-    same_length
-    returns-2)
+    judge_call-refusal-requires
+    put_listed-requires
+    returns-then-refusal-ne0
+    ouriscado_core_read-requires
+    shape_of-out
+    returns)

@@ -30,47 +30,47 @@ module _ (s : tie.Start) where
   same : did (take (length list - 0) (drop 0 list)) ≡ did list
   same = ap did (part_to_end list 0)
 
-sub-load : tie.Need-overflow-sub-load
-sub-load c = search rules
+slice_bounds-load-count : tie.Need-slice_bounds-load-count
+slice_bounds-load-count c = search rules
 
-part-load-start : tie.Need-slice-bounds-load-start
-part-load-start c = search rules
+slice_bounds-load-start : tie.Need-slice_bounds-load-start
+slice_bounds-load-start c = search rules
 
-part-load-end : tie.Need-slice-bounds-load-end
-part-load-end c = search rules
+slice_bounds-load-end : tie.Need-slice_bounds-load-end
+slice_bounds-load-end c = search rules
 
-load-requires : tie.Need-load-requires
-load-requires c κs = search rules
+load-answer-requires : tie.Need-load-answer-requires
+load-answer-requires c κs = search rules
 
-put-loaded-requires : tie.Need-put-loaded-requires
-put-loaded-requires c κs = search rules
+put_loaded-requires : tie.Need-put_loaded-requires
+put_loaded-requires c κs = search rules
 
-same_length : tie.Need-same-length
-same_length c = search rules
+shape_of-body : tie.Need-shape_of-body
+shape_of-body c = search rules
 
-same-length-2 : tie.Need-same-length-2
-same-length-2 c = search rules
+shape_of-heads : tie.Need-shape_of-heads
+shape_of-heads c = search rules
 
 returns : tie.Need-returns
 returns c =
     let loading = c.before.before.before.before.before.before in
     let s = loading.before.before.before.before.before.before.before.before.before.before in
-    let e = loading.load.ensures in
-    let h = c.put-loaded.ensures in
+    let e = loading.load-answer.ensures in
+    let h = c.put_loaded.ensures in
     let told = e.0 ∙ ap answer_of (same s) in
     let left = e.1 ∙ ap (book_after (b s)) (same s) in
     let number = h.0 ∙ ap refusal_of told ∙ number_answered (λ (o : Outcome Loaded). o.told) (did s (list s)) in
     (number, (left, (h.1 ∙ value_same pages_loaded _ told, kept_book (did s (list s)) number left)))
 
-pub core-load-by-spec : {M : Type 1} → statement M
-core-load-by-spec =
+pub core_load_by_spec : {M : Type 1} → statement M
+core_load_by_spec =
     tie.close
     (tie.spec
-    sub-load
-    part-load-start
-    part-load-end
-    load-requires
-    put-loaded-requires
-    same_length
-    same-length-2
+    slice_bounds-load-count
+    slice_bounds-load-start
+    slice_bounds-load-end
+    load-answer-requires
+    put_loaded-requires
+    shape_of-body
+    shape_of-heads
     returns)

@@ -11,22 +11,22 @@ use borrow.Author.Rules.{rules}
 use Rattle.ouriscado.proofs.account_core.ouriscado_core_append.Statement.{statement}
 use Rattle.ouriscado.proofs.account_core.ouriscado_core_append.Tie as tie
 
-append-requires : tie.Need-append-requires
-append-requires c κs = search rules
+append-answer-requires : tie.Need-append-answer-requires
+append-answer-requires c κs = search rules
 
-put-appended-requires : tie.Need-put-appended-requires
-put-appended-requires c κs = search rules
+put_appended-requires : tie.Need-put_appended-requires
+put_appended-requires c κs = search rules
 
-same_length : tie.Need-same-length
-same_length c = search rules
+shape_of-body : tie.Need-shape_of-body
+shape_of-body c = search rules
 
-same-length-2 : tie.Need-same-length-2
-same-length-2 c = search rules
+shape_of-heads : tie.Need-shape_of-heads
+shape_of-heads c = search rules
 
 returns : tie.Need-returns
 returns c =
-    let e = c.before.before.before.before.before.before.before.before.before.before.append.ensures in
-    let h = c.put-appended.ensures in
+    let e = c.before.before.before.before.before.before.before.before.before.before.append-answer.ensures in
+    let h = c.put_appended.ensures in
     let number = h.0 ∙ ap refusal_of e.0 ∙ number_answered (λ (o : Outcome Appended). o.told) _ in (
       number,
       (
@@ -47,12 +47,12 @@ returns c =
       ),
     )
 
-pub ouriscado-core-append-spec : {M : Type 1} → statement M
-ouriscado-core-append-spec =
+pub ouriscado_core_append_spec : {M : Type 1} → statement M
+ouriscado_core_append_spec =
     tie.close
     (tie.spec
-    append-requires
-    put-appended-requires
-    same_length
-    same-length-2
+    append-answer-requires
+    put_appended-requires
+    shape_of-body
+    shape_of-heads
     returns)

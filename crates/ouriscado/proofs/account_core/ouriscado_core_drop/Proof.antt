@@ -10,31 +10,31 @@ use Rattle.ouriscado.proofs.account_core.ouriscado_core_drop.Statement.{statemen
 use Rattle.book_rules.specs.Outcomes.{Dropped}
 use Rattle.ouriscado.proofs.account_core.ouriscado_core_drop.Tie as tie
 
-drop-requires : tie.Need-drop-requires
-drop-requires c κs = search rules
+drop-answer-requires : tie.Need-drop-answer-requires
+drop-answer-requires c κs = search rules
 
-put-dropped-requires : tie.Need-put-dropped-requires
-put-dropped-requires c κs = search rules
+put_dropped-requires : tie.Need-put_dropped-requires
+put_dropped-requires c κs = search rules
 
-same_length : tie.Need-same-length
-same_length c = search rules
+shape_of-body : tie.Need-shape_of-body
+shape_of-body c = search rules
 
-same-length-2 : tie.Need-same-length-2
-same-length-2 c = search rules
+shape_of-heads : tie.Need-shape_of-heads
+shape_of-heads c = search rules
 
 returns : tie.Need-returns
 returns c =
-    let e = c.before.before.before.before.before.before.drop.ensures in
-    let h = c.put-dropped.ensures in
+    let e = c.before.before.before.before.before.before.drop-answer.ensures in
+    let h = c.put_dropped.ensures in
     let number = h.0 ∙ ap refusal_of e.0 ∙ number_answered (λ (o : Outcome Dropped). o.told) _ in
     (number, (e.1, (h.1 ∙ value_same length_dropped _ e.0, kept_book _ number e.1)))
 
-pub ouriscado-core-drop-spec : {M : Type 1} → statement M
-ouriscado-core-drop-spec =
+pub ouriscado_core_drop_spec : {M : Type 1} → statement M
+ouriscado_core_drop_spec =
     tie.close
     (tie.spec
-    drop-requires
-    put-dropped-requires
-    same_length
-    same-length-2
+    drop-answer-requires
+    put_dropped-requires
+    shape_of-body
+    shape_of-heads
     returns)

@@ -15,36 +15,36 @@ use borrow.Author.Rules.{rules}
 use Rattle.ouriscado.proofs.account_core.ouriscado_core_read.Statement.{statement}
 use Rattle.ouriscado.proofs.account_core.ouriscado_core_read.Tie as tie
 
-sub_read : tie.Need-overflow-sub-read
-sub_read c = search rules
+slice_bounds-read-count : tie.Need-slice_bounds-read-count
+slice_bounds-read-count c = search rules
 
-part-read-start : tie.Need-slice-bounds-read-start
-part-read-start c = search rules
+slice_bounds-read-start : tie.Need-slice_bounds-read-start
+slice_bounds-read-start c = search rules
 
-part-read-end : tie.Need-slice-bounds-read-end
-part-read-end c = search rules
+slice_bounds-read-end : tie.Need-slice_bounds-read-end
+slice_bounds-read-end c = search rules
 
-sub-read-2 : tie.Need-overflow-sub-read-2
-sub-read-2 c = search rules
+slice_bounds-read-count-2 : tie.Need-slice_bounds-read-count-2
+slice_bounds-read-count-2 c = search rules
 
-part-read-start-2 : tie.Need-slice-bounds-read-start-2
-part-read-start-2 c = search rules
+slice_bounds-read-start-2 : tie.Need-slice_bounds-read-start-2
+slice_bounds-read-start-2 c = search rules
 
-part-read-end-2 : tie.Need-slice-bounds-read-end-2
-part-read-end-2 c = search rules
+slice_bounds-read-end-2 : tie.Need-slice_bounds-read-end-2
+slice_bounds-read-end-2 c = search rules
 
-read-requires : tie.Need-read-requires
-read-requires c κs = search rules
+read-answer-requires : tie.Need-read-answer-requires
+read-answer-requires c κs = search rules
 
-put-listed-requires : tie.Need-put-listed-requires
-put-listed-requires c κs = search rules
+put_listed-requires : tie.Need-put_listed-requires
+put_listed-requires c κs = search rules
 
-same_length : tie.Need-same-length
-same_length c = search rules
+shape_of-out : tie.Need-shape_of-out
+shape_of-out c = search rules
 
 -- what is read, whatever the free heads and the counts are: body and heads, which are handed on as parts, are those that were lent
-module _ (c : tie.After-put-listed) (free counts : List ℕ) where
-  abbrev reading : tie.After-read
+module _ (c : tie.After-put_listed) (free counts : List ℕ) where
+  abbrev reading : tie.After-read-answer
   reading = c.before.before.before.before.before.before
 
   abbrev start : tie.Start
@@ -66,22 +66,22 @@ module _ (c : tie.After-put-listed) (free counts : List ℕ) where
   same = ap (λ (bs : List ℕ). from bs (take (length words - 0) (drop 0 words))) (part_to_end bytes 0)
       ∙ ap (from bytes) (part_to_end words 0)
 
-  answer : read_answer reading.read.result ≡ answered counted_of got
-  answer = reading.read.ensures.0 free counts ∙ ap (answered counted_of) same
+  answer : read_answer reading.read-answer.result ≡ answered counted_of got
+  answer = reading.read-answer.ensures.0 free counts ∙ ap (answered counted_of) same
 
-  number : c.put-listed.result ≡ refusal_of got
-  number = c.put-listed.ensures.0 ∙ ap refusal_of answer ∙ number_answered counted_of got
+  number : c.put_listed.result ≡ refusal_of got
+  number = c.put_listed.ensures.0 ∙ ap refusal_of answer ∙ number_answered counted_of got
 
   -- a number of those that the answer counts
-  counted : (of : Counted → ℕ) {told : ℕ} → told ≡ value_or of (read_answer reading.read.result) 0
+  counted : (of : Counted → ℕ) {told : ℕ} → told ≡ value_or of (read_answer reading.read-answer.result) 0
       → told ≡ value_or (λ (l : Listed). of (counted_of l)) got 0
   counted of told = told ∙ value_same of _ answer ∙ value_answered of counted_of 0 got
 
 returns : tie.Need-returns
 returns c =
-    let h = c.put-listed.ensures in
+    let h = c.put_listed.ensures in
     let out = (start c [] []).args.out.now in
-    let list = (reading c [] []).read.ensures.1 in (
+    let list = (reading c [] []).read-answer.ensures.1 in (
       number c,
       (
         λ free counts. list free counts ∙ ap (list_after out) (same c free counts),
@@ -98,17 +98,17 @@ returns c =
       ),
     )
 
-pub ouriscado-core-read-spec : {M : Type 1} → statement M
-ouriscado-core-read-spec =
+pub ouriscado_core_read_spec : {M : Type 1} → statement M
+ouriscado_core_read_spec =
     tie.close
     (tie.spec
-    sub_read
-    part-read-start
-    part-read-end
-    sub-read-2
-    part-read-start-2
-    part-read-end-2
-    read-requires
-    put-listed-requires
-    same_length
+    slice_bounds-read-count
+    slice_bounds-read-start
+    slice_bounds-read-end
+    slice_bounds-read-count-2
+    slice_bounds-read-start-2
+    slice_bounds-read-end-2
+    read-answer-requires
+    put_listed-requires
+    shape_of-out
     returns)

@@ -13,7 +13,7 @@ use Rattle.ouriscado.proofs.account_extend.ouriscado_book_extend.Statement.{stat
 use Rattle.ouriscado.proofs.account_extend.ouriscado_book_extend.Tie as tie
 
 -- the book, and its extend by a desk
-module _ (j : tie.After-judge-call) where
+module _ (j : tie.After-judge_call-number) where
   abbrev start : tie.Start
   start = j.before.before.before.before.before.before.before.before
 
@@ -26,23 +26,23 @@ module _ (j : tie.After-judge-call) where
   abbrev call : ℕ → Answer (Outcome Extended)
   call desk = extends desk b start.args.key start.args.fks.now
 
-judge-call-requires : tie.Need-judge-call-requires
-judge-call-requires c κs = search rules
+judge_call-number-requires : tie.Need-judge_call-number-requires
+judge_call-number-requires c κs = search rules
 
-put-extended-requires : tie.Need-put-extended-requires
-put-extended-requires c κs = search rules
+put_extended-requires : tie.Need-put_extended-requires
+put_extended-requires c κs = search rules
 
-same_length : tie.Need-same-length
-same_length c = search rules
+shape_of-body-then-number-ne0 : tie.Need-shape_of-body-then-number-ne0
+shape_of-body-then-number-ne0 c = search rules
 
-returns : tie.Need-returns
+returns-then-number-ne0 : tie.Need-returns-then-number-ne0
 unfolding book_after answered
-returns c =
+returns-then-number-ne0 c =
     let j = c.before.before.before.before.before.before.before.before.before.before in
-    let told = j.judge-call.ensures (start j).args.heads.now (start j).args.free.now refl in
-    let taken = c.before.before.before.before.before.before.before.before.before.if1.true in
+    let told = j.judge_call-number.ensures (start j).args.heads.now (start j).args.free.now refl in
+    let taken = c.before.before.before.before.before.before.before.before.before.if-number-ne0.true in
     let e = turned_back (lent j) (b j) (start j).args.key (call j) told taken in
-    let h = c.put-extended.ensures in
+    let h = c.put_extended.ensures in
     rw e (
       h.0,
       (
@@ -66,37 +66,37 @@ returns c =
       ),
     )
 
-desk-of-requires : tie.Need-desk-of-requires
-desk-of-requires c κs = search rules
+desk_of-desk-requires : tie.Need-desk_of-desk-requires
+desk_of-desk-requires c κs = search rules
 
-ouriscado-core-extend-requires : tie.Need-ouriscado-core-extend-requires
-ouriscado-core-extend-requires c κs = search rules
+ouriscado_core_extend-requires : tie.Need-ouriscado_core_extend-requires
+ouriscado_core_extend-requires c κs = search rules
 
-same-length-2 : tie.Need-same-length-2
-same-length-2 c = search rules
+shape_of-body : tie.Need-shape_of-body
+shape_of-body c = search rules
 
-same-length-3 : tie.Need-same-length-3
-same-length-3 c = search rules
+shape_of-heads : tie.Need-shape_of-heads
+shape_of-heads c = search rules
 
-returns-2 : tie.Need-returns-2
-returns-2 c =
+returns : tie.Need-returns
+returns c =
     let done = c.before.before.before.before in
     let desk = done.before.before.before.before.before.before.before.before.before.before.before.before.before.before in
     let j = desk.before.before in
-    let told = j.judge-call.ensures (start j).args.heads.now (start j).args.free.now refl in
-    let e = made_for (lent j) (b j) (start j).args.key (call j) told desk.before.if1.false desk.desk-of.ensures in
-    rw e done.ouriscado-core-extend.ensures
+    let told = j.judge_call-number.ensures (start j).args.heads.now (start j).args.free.now refl in
+    let e = made_for (lent j) (b j) (start j).args.key (call j) told desk.before.if-number-ne0.false desk.desk_of-desk.ensures in
+    rw e done.ouriscado_core_extend.ensures
 
-pub ouriscado-book-extend-spec : {M : Type 1} → statement M
-ouriscado-book-extend-spec =
+pub ouriscado_book_extend_spec : {M : Type 1} → statement M
+ouriscado_book_extend_spec =
     tie.close
     (tie.spec
-    judge-call-requires
-    put-extended-requires
-    same_length
-    returns
-    desk-of-requires
-    ouriscado-core-extend-requires
-    same-length-2
-    same-length-3
-    returns-2)
+    judge_call-number-requires
+    put_extended-requires
+    shape_of-body-then-number-ne0
+    returns-then-number-ne0
+    desk_of-desk-requires
+    ouriscado_core_extend-requires
+    shape_of-body
+    shape_of-heads
+    returns)

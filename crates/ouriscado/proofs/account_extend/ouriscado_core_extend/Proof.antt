@@ -11,22 +11,22 @@ use borrow.Author.Rules.{rules}
 use Rattle.ouriscado.proofs.account_extend.ouriscado_core_extend.Statement.{statement}
 use Rattle.ouriscado.proofs.account_extend.ouriscado_core_extend.Tie as tie
 
-extend-requires : tie.Need-extend-requires
-extend-requires c κs = search rules
+extend-answer-requires : tie.Need-extend-answer-requires
+extend-answer-requires c κs = search rules
 
-put-extended-requires : tie.Need-put-extended-requires
-put-extended-requires c κs = search rules
+put_extended-requires : tie.Need-put_extended-requires
+put_extended-requires c κs = search rules
 
-same_length : tie.Need-same-length
-same_length c = search rules
+shape_of-body : tie.Need-shape_of-body
+shape_of-body c = search rules
 
-same-length-2 : tie.Need-same-length-2
-same-length-2 c = search rules
+shape_of-heads : tie.Need-shape_of-heads
+shape_of-heads c = search rules
 
 returns : tie.Need-returns
 returns c =
-    let e = c.before.before.before.before.before.before.before.before.before.before.before.before.before.extend.ensures in
-    let h = c.put-extended.ensures in
+    let e = c.before.before.before.before.before.before.before.before.before.before.before.before.before.extend-answer.ensures in
+    let h = c.put_extended.ensures in
     let number = h.0 ∙ ap refusal_of e.0 ∙ number_answered (λ (o : Outcome Extended). o.told) _ in (
       number,
       (
@@ -56,12 +56,12 @@ returns c =
       ),
     )
 
-pub ouriscado-core-extend-spec : {M : Type 1} → statement M
-ouriscado-core-extend-spec =
+pub ouriscado_core_extend_spec : {M : Type 1} → statement M
+ouriscado_core_extend_spec =
     tie.close
     (tie.spec
-    extend-requires
-    put-extended-requires
-    same_length
-    same-length-2
+    extend-answer-requires
+    put_extended-requires
+    shape_of-body
+    shape_of-heads
     returns)

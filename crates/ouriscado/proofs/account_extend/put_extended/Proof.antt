@@ -9,22 +9,22 @@ use borrow.Author.Rules.{rules}
 use Rattle.ouriscado.proofs.account_extend.put_extended.Statement.{statement}
 use Rattle.ouriscado.proofs.account_extend.put_extended.Tie as tie
 
-enum-known-answer : tie.Need-enum-known-answer
-enum-known-answer c = search rules
+enum_known-answer : tie.Need-enum_known-answer
+enum_known-answer c = search rules
 
-put-head-requires : tie.Need-put-head-requires
-put-head-requires c κs = search rules
+put_head-requires : tie.Need-put_head-requires
+put_head-requires c κs = search rules
 
-enum-known-answer-2 : tie.Need-enum-known-answer-2
-enum-known-answer-2 c = search rules
+enum_known-answer-in-Refused-1 : tie.Need-enum_known-answer-in-Refused-1
+enum_known-answer-in-Refused-1 c = search rules
 
-put-head-requires-2 : tie.Need-put-head-requires-2
-put-head-requires-2 c κs = search rules
+put_head-requires-in-Refused : tie.Need-put_head-requires-in-Refused
+put_head-requires-in-Refused c κs = search rules
 
-returns : tie.Need-returns
-returns c =
-    let h = c.put-head.ensures in
-    let yes = ap extend_answer c.before.before.before.before.before.before.answer.given.1 in (
+returns-in-Extended : tie.Need-returns-in-Extended
+returns-in-Extended c =
+    let h = c.put_head.ensures in
+    let yes = ap extend_answer c.before.before.before.before.before.before.answer-1.given.1 in (
       h.0 ∙ number_accepted yes,
       (
         value_accepted numbers_accepted _ yes,
@@ -47,10 +47,10 @@ returns c =
       ),
     )
 
-returns-2 : tie.Need-returns-2
-returns-2 c =
-    let h = c.put-head2.ensures in
-    let no = ap extend_answer c.before.before.before.before.before.before.answer2.given.1 in (
+returns-in-Refused : tie.Need-returns-in-Refused
+returns-in-Refused c =
+    let h = c.put_head-in-Refused.ensures in
+    let no = ap extend_answer c.before.before.before.before.before.before.answer-in-Refused-1.given.1 in (
       h.0 ∙ number_refused no,
       (
         value_refused numbers_accepted _ no,
@@ -73,13 +73,13 @@ returns-2 c =
       ),
     )
 
-pub put-extended-spec : {M : Type 1} → statement M
-put-extended-spec =
+pub put_extended_spec : {M : Type 1} → statement M
+put_extended_spec =
     tie.close
     (tie.spec
-    enum-known-answer
-    put-head-requires
-    enum-known-answer-2
-    put-head-requires-2
-    returns
-    returns-2)
+    enum_known-answer
+    put_head-requires
+    enum_known-answer-in-Refused-1
+    put_head-requires-in-Refused
+    returns-in-Extended
+    returns-in-Refused)

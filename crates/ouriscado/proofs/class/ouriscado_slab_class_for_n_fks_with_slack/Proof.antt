@@ -7,16 +7,16 @@ use borrow.Author.Rules.{rules}
 use Rattle.ouriscado.proofs.class.ouriscado_slab_class_for_n_fks_with_slack.Statement.{statement}
 use Rattle.ouriscado.proofs.class.ouriscado_slab_class_for_n_fks_with_slack.Tie as tie
 
-slab-class-for-n-fks-with-slack-requires : tie.Need-slab-class-for-n-fks-with-slack-requires
-slab-class-for-n-fks-with-slack-requires c κs = search rules
+slab_class_for_n_fks_with_slack-requires : tie.Need-slab_class_for_n_fks_with_slack-requires
+slab_class_for_n_fks_with_slack-requires c κs = search rules
 
-put-class-requires : tie.Need-put-class-requires
-put-class-requires c κs = search rules
+put_class-requires : tie.Need-put_class-requires
+put_class-requires c κs = search rules
 
 returns : tie.Need-returns
 returns c =
-    let e = c.before.before.slab-class-for-n-fks-with-slack.ensures in
-    (c.put-class.ensures.0 ∙ ap has_class e, c.put-class.ensures.1 ∙ ap (λ (o : Option ℕ). get_or o 0) e)
+    let e = c.before.before.slab_class_for_n_fks_with_slack.ensures in
+    (c.put_class.ensures.0 ∙ ap has_class e, c.put_class.ensures.1 ∙ ap (λ (o : Option ℕ). get_or o 0) e)
 
-pub ouriscado-slab-class-for-n-fks-with-slack-spec : {M : Type 1} → statement M
-ouriscado-slab-class-for-n-fks-with-slack-spec = tie.close (tie.spec slab-class-for-n-fks-with-slack-requires put-class-requires returns)
+pub ouriscado_slab_class_for_n_fks_with_slack_spec : {M : Type 1} → statement M
+ouriscado_slab_class_for_n_fks_with_slack_spec = tie.close (tie.spec slab_class_for_n_fks_with_slack-requires put_class-requires returns)

@@ -8,16 +8,16 @@ use borrow.Author.Rules.{rules}
 use Rattle.ouriscado.proofs.free.ouriscado_pop_free_head.Statement.{statement}
 use Rattle.ouriscado.proofs.free.ouriscado_pop_free_head.Tie as tie
 
-pop-lent-requires : tie.Need-pop-lent-requires
-pop-lent-requires c κs = search rules
+pop_lent-answer-requires : tie.Need-pop_lent-answer-requires
+pop_lent-answer-requires c κs = search rules
 
-put-block-requires : tie.Need-put-block-requires
-put-block-requires c κs = search rules
+put_block-requires : tie.Need-put_block-requires
+put_block-requires c κs = search rules
 
 returns : tie.Need-returns
 returns c =
-    let e = c.before.before.pop-lent.ensures in
-    let h = c.put-block.ensures in (
+    let e = c.before.before.pop_lent-answer.ensures in
+    let h = c.put_block.ensures in (
       h.0 ∙ ap refusal_of e.0
           ∙ number_answered (λ (p : Pop). p.block) _,
       (
@@ -27,5 +27,5 @@ returns c =
       ),
     )
 
-pub ouriscado-pop-free-head-spec : {M : Type 1} → statement M
-ouriscado-pop-free-head-spec = tie.close (tie.spec pop-lent-requires put-block-requires returns)
+pub ouriscado_pop_free_head_spec : {M : Type 1} → statement M
+ouriscado_pop_free_head_spec = tie.close (tie.spec pop_lent-answer-requires put_block-requires returns)

@@ -7,19 +7,19 @@ use borrow.Author.Rules.{rules}
 use Rattle.ouriscado.proofs.free.ouriscado_push_free_head.Statement.{statement}
 use Rattle.ouriscado.proofs.free.ouriscado_push_free_head.Tie as tie
 
-push-lent-requires : tie.Need-push-lent-requires
-push-lent-requires c κs = search rules
+push_lent-answer-requires : tie.Need-push_lent-answer-requires
+push_lent-answer-requires c κs = search rules
 
 refusal-requires : tie.Need-refusal-requires
 refusal-requires c κs = search rules
 
-same_length : tie.Need-same-length
-same_length c = search rules
+shape_of-body : tie.Need-shape_of-body
+shape_of-body c = search rules
 
 returns : tie.Need-returns
 returns c =
-    let e = c.before.before.before.push-lent.ensures in
+    let e = c.before.before.before.push_lent-answer.ensures in
     (c.refusal.ensures ∙ ap refusal_of e.0 ∙ number_answered was_done _, e.1)
 
-pub ouriscado-push-free-head-spec : {M : Type 1} → statement M
-ouriscado-push-free-head-spec = tie.close (tie.spec push-lent-requires refusal-requires same_length returns)
+pub ouriscado_push_free_head_spec : {M : Type 1} → statement M
+ouriscado_push_free_head_spec = tie.close (tie.spec push_lent-answer-requires refusal-requires shape_of-body returns)

@@ -9,22 +9,22 @@ use borrow.Author.Rules.{rules}
 use Rattle.ouriscado.proofs.handed.put_appended.Statement.{statement}
 use Rattle.ouriscado.proofs.handed.put_appended.Tie as tie
 
-enum-known-answer : tie.Need-enum-known-answer
-enum-known-answer c = search rules
+enum_known-answer : tie.Need-enum_known-answer
+enum_known-answer c = search rules
 
-put-head-requires : tie.Need-put-head-requires
-put-head-requires c κs = search rules
+put_head-requires : tie.Need-put_head-requires
+put_head-requires c κs = search rules
 
-enum-known-answer-2 : tie.Need-enum-known-answer-2
-enum-known-answer-2 c = search rules
+enum_known-answer-in-Refused-1 : tie.Need-enum_known-answer-in-Refused-1
+enum_known-answer-in-Refused-1 c = search rules
 
-put-head-requires-2 : tie.Need-put-head-requires-2
-put-head-requires-2 c κs = search rules
+put_head-requires-in-Refused : tie.Need-put_head-requires-in-Refused
+put_head-requires-in-Refused c κs = search rules
 
-returns : tie.Need-returns
-returns c =
-    let h = c.put-head.ensures in
-    let yes = ap append_answer c.before.before.before.before.before.before.answer.given.1 in (
+returns-in-Appended : tie.Need-returns-in-Appended
+returns-in-Appended c =
+    let h = c.put_head.ensures in
+    let yes = ap append_answer c.before.before.before.before.before.before.answer-1.given.1 in (
       h.0 ∙ number_accepted yes,
       (
         h.1.0 ∙ value_accepted (λ (t : Appended). kind_out (new_place t)) _ yes,
@@ -41,10 +41,10 @@ returns c =
       ),
     )
 
-returns-2 : tie.Need-returns-2
-returns-2 c =
-    let h = c.put-head2.ensures in
-    let no = ap append_answer c.before.before.before.before.before.before.answer2.given.1 in (
+returns-in-Refused : tie.Need-returns-in-Refused
+returns-in-Refused c =
+    let h = c.put_head-in-Refused.ensures in
+    let no = ap append_answer c.before.before.before.before.before.before.answer-in-Refused-1.given.1 in (
       h.0 ∙ number_refused no,
       (
         h.1.0 ∙ value_refused (λ (t : Appended). kind_out (new_place t)) _ no,
@@ -61,13 +61,13 @@ returns-2 c =
       ),
     )
 
-pub put-appended-spec : {M : Type 1} → statement M
-put-appended-spec =
+pub put_appended_spec : {M : Type 1} → statement M
+put_appended_spec =
     tie.close
     (tie.spec
-    enum-known-answer
-    put-head-requires
-    enum-known-answer-2
-    put-head-requires-2
-    returns
-    returns-2)
+    enum_known-answer
+    put_head-requires
+    enum_known-answer-in-Refused-1
+    put_head-requires-in-Refused
+    returns-in-Appended
+    returns-in-Refused)

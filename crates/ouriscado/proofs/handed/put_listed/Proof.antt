@@ -6,15 +6,15 @@ use borrow.Author.Rules.{rules}
 use Rattle.ouriscado.proofs.handed.put_listed.Statement.{statement}
 use Rattle.ouriscado.proofs.handed.put_listed.Tie as tie
 
-enum-known-answer : tie.Need-enum-known-answer
-enum-known-answer c = search rules
+enum_known-answer : tie.Need-enum_known-answer
+enum_known-answer c = search rules
 
-enum-known-answer-2 : tie.Need-enum-known-answer-2
-enum-known-answer-2 c = search rules
+enum_known-answer-in-Refused-1 : tie.Need-enum_known-answer-in-Refused-1
+enum_known-answer-in-Refused-1 c = search rules
 
-returns : tie.Need-returns
-returns c =
-    let yes = ap read_answer c.before.answer.given.1 in (
+returns-in-Listed : tie.Need-returns-in-Listed
+returns-in-Listed c =
+    let yes = ap read_answer c.before.answer-1.given.1 in (
       number_accepted yes,
       (
         value_accepted (λ (x : Counted). x.length) _ yes,
@@ -22,9 +22,9 @@ returns c =
       ),
     )
 
-returns-2 : tie.Need-returns-2
-returns-2 c =
-    let no = ap read_answer c.before.answer2.given.1 in (
+returns-in-Refused : tie.Need-returns-in-Refused
+returns-in-Refused c =
+    let no = ap read_answer c.before.answer-in-Refused-1.given.1 in (
       number_refused no,
       (
         value_refused (λ (x : Counted). x.length) _ no,
@@ -32,5 +32,5 @@ returns-2 c =
       ),
     )
 
-pub put-listed-spec : {M : Type 1} → statement M
-put-listed-spec = tie.close (tie.spec enum-known-answer enum-known-answer-2 returns returns-2)
+pub put_listed_spec : {M : Type 1} → statement M
+put_listed_spec = tie.close (tie.spec enum_known-answer enum_known-answer-in-Refused-1 returns-in-Listed returns-in-Refused)

@@ -5,14 +5,14 @@ use borrow.Author.Rules.{rules}
 use Rattle.ouriscado.proofs.head.ouriscado_pack8_bytes_extent.Statement.{statement}
 use Rattle.ouriscado.proofs.head.ouriscado_pack8_bytes_extent.Tie as tie
 
-pack8-bytes-requires : tie.Need-pack8-bytes-requires
-pack8-bytes-requires c κs = search rules
+pack8_bytes-packed-requires : tie.Need-pack8_bytes-packed-requires
+pack8_bytes-packed-requires c κs = search rules
 
-refusal-of-requires : tie.Need-refusal-of-requires
-refusal-of-requires c κs = search rules
+refusal_of-requires : tie.Need-refusal_of-requires
+refusal_of-requires c κs = search rules
 
 returns : tie.Need-returns
-returns c = (c.refusal-of.ensures ∙ ap refusal_of c.before.pack8-bytes.ensures.0, c.before.pack8-bytes.ensures.1)
+returns c = (c.refusal_of.ensures ∙ ap refusal_of c.before.pack8_bytes-packed.ensures.0, c.before.pack8_bytes-packed.ensures.1)
 
-pub ouriscado-pack8-bytes-extent-spec : {M : Type 1} → statement M
-ouriscado-pack8-bytes-extent-spec = tie.close (tie.spec pack8-bytes-requires refusal-of-requires returns)
+pub ouriscado_pack8_bytes_extent_spec : {M : Type 1} → statement M
+ouriscado_pack8_bytes_extent_spec = tie.close (tie.spec pack8_bytes-packed-requires refusal_of-requires returns)

@@ -9,13 +9,13 @@ use Rattle.ouriscado.proofs.head.ouriscado_pack8_slab.Tie as tie
 pack8-requires : tie.Need-pack8-requires
 pack8-requires c κs = search rules
 
-put-word-requires : tie.Need-put-word-requires
-put-word-requires c κs = search rules
+put_word-requires : tie.Need-put_word-requires
+put_word-requires c κs = search rules
 
 returns : tie.Need-returns
 returns c =
     let e = c.before.before.pack8.ensures in
     (c.put_word.ensures.0 ∙ ap refusal_of e, c.put_word.ensures.1 ∙ value_same (λ x. x) _ e)
 
-pub ouriscado-pack8-slab-spec : {M : Type 1} → statement M
-ouriscado-pack8-slab-spec = tie.close (tie.spec pack8-requires put-word-requires returns)
+pub ouriscado_pack8_slab_spec : {M : Type 1} → statement M
+ouriscado_pack8_slab_spec = tie.close (tie.spec pack8-requires put_word-requires returns)

@@ -10,13 +10,13 @@ use Rattle.ouriscado.proofs.head.ouriscado_unpack8.Tie as tie
 unpack8-requires : tie.Need-unpack8-requires
 unpack8-requires c κs = search rules
 
-put-head-requires : tie.Need-put-head-requires
-put-head-requires c κs = search rules
+put_head-requires : tie.Need-put_head-requires
+put_head-requires c κs = search rules
 
 returns : tie.Need-returns
 returns c =
     let e = c.before.before.before.before.before.unpack8.ensures in
-    let h = c.put-head.ensures in (
+    let h = c.put_head.ensures in (
       h.0 ∙ ap refusal_of e,
       (
         h.1.0
@@ -29,5 +29,5 @@ returns c =
       ),
     )
 
-pub ouriscado-unpack8-spec : {M : Type 1} → statement M
-ouriscado-unpack8-spec = tie.close (tie.spec unpack8-requires put-head-requires returns)
+pub ouriscado_unpack8_spec : {M : Type 1} → statement M
+ouriscado_unpack8_spec = tie.close (tie.spec unpack8-requires put_head-requires returns)

@@ -7,16 +7,16 @@ use borrow.Author.Rules.{rules}
 use Rattle.ouriscado.proofs.head.ouriscado_unpack8_bytes.Statement.{statement}
 use Rattle.ouriscado.proofs.head.ouriscado_unpack8_bytes.Tie as tie
 
-unpack8-bytes-requires : tie.Need-unpack8-bytes-requires
-unpack8-bytes-requires c κs = search rules
+unpack8_bytes-requires : tie.Need-unpack8_bytes-requires
+unpack8_bytes-requires c κs = search rules
 
-put-head-requires : tie.Need-put-head-requires
-put-head-requires c κs = search rules
+put_head-requires : tie.Need-put_head-requires
+put_head-requires c κs = search rules
 
 returns : tie.Need-returns
 returns c =
-    let e = c.before.before.before.before.before.unpack8-bytes.ensures in
-    let h = c.put-head.ensures in (
+    let e = c.before.before.before.before.before.unpack8_bytes.ensures in
+    let h = c.put_head.ensures in (
       h.0 ∙ ap refusal_of e,
       (
         h.1.0
@@ -29,5 +29,5 @@ returns c =
       ),
     )
 
-pub ouriscado-unpack8-bytes-spec : {M : Type 1} → statement M
-ouriscado-unpack8-bytes-spec = tie.close (tie.spec unpack8-bytes-requires put-head-requires returns)
+pub ouriscado_unpack8_bytes_spec : {M : Type 1} → statement M
+ouriscado_unpack8_bytes_spec = tie.close (tie.spec unpack8_bytes-requires put_head-requires returns)

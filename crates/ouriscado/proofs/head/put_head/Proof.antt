@@ -8,27 +8,27 @@ use borrow.Author.Rules.{rules}
 use Rattle.ouriscado.proofs.head.put_head.Statement.{statement}
 use Rattle.ouriscado.proofs.head.put_head.Tie as tie
 
-enum-known-got : tie.Need-enum-known-got
-enum-known-got c = search rules
+enum_known-got : tie.Need-enum_known-got
+enum_known-got c = search rules
 
-enum-known-got-2 : tie.Need-enum-known-got-2
-enum-known-got-2 c = search rules
+enum_known-got-in-Head-1 : tie.Need-enum_known-got-in-Head-1
+enum_known-got-in-Head-1 c = search rules
 
-kind-of-requires : tie.Need-kind-of-requires
-kind-of-requires c κs = search rules
+kind_of-requires : tie.Need-kind_of-requires
+kind_of-requires c κs = search rules
 
-class-of-requires : tie.Need-class-of-requires
-class-of-requires c κs = search rules
+class_of-requires : tie.Need-class_of-requires
+class_of-requires c κs = search rules
 
-used-of-requires : tie.Need-used-of-requires
-used-of-requires c κs = search rules
+used_of-requires : tie.Need-used_of-requires
+used_of-requires c κs = search rules
 
-place-of-requires : tie.Need-place-of-requires
-place-of-requires c κs = search rules
+place_of-requires : tie.Need-place_of-requires
+place_of-requires c κs = search rules
 
-returns : tie.Need-returns
-returns c =
-    let no = ap unpack_answer c.before.got.given.1 in (
+returns-in-Refused : tie.Need-returns-in-Refused
+returns-in-Refused c =
+    let no = ap unpack_answer c.before.got-1.given.1 in (
       number_refused no,
       (
         value_refused kind_out _ no,
@@ -36,18 +36,18 @@ returns c =
       ),
     )
 
-returns-2 : tie.Need-returns-2
-returns-2 c =
-    let yes = ap unpack_answer c.before.before.before.before.before.got2.given.1 in (
+returns-in-Head : tie.Need-returns-in-Head
+returns-in-Head c =
+    let yes = ap unpack_answer c.before.before.before.before.before.got-in-Head-1.given.1 in (
       number_accepted yes,
       (
-        c.before.before.before.kind-of.ensures
+        c.before.before.before.kind_of.ensures
             ∙ value_accepted kind_out _ yes,
         (
           c.before.before.class_of.ensures
               ∙ value_accepted class_out _ yes,
           (
-            c.before.used-of.ensures ∙ value_accepted used_out _ yes,
+            c.before.used_of.ensures ∙ value_accepted used_out _ yes,
             c.place_of.ensures
                 ∙ value_accepted place_out _ yes,
           ),
@@ -55,6 +55,6 @@ returns-2 c =
       ),
     )
 
-pub put-head-spec : {M : Type 1} → statement M
-put-head-spec = tie.close
-    (tie.spec enum-known-got enum-known-got-2 kind-of-requires class-of-requires used-of-requires place-of-requires returns returns-2)
+pub put_head_spec : {M : Type 1} → statement M
+put_head_spec = tie.close
+    (tie.spec enum_known-got enum_known-got-in-Head-1 kind_of-requires class_of-requires used_of-requires place_of-requires returns-in-Refused returns-in-Head)

@@ -8,26 +8,26 @@ use borrow.Author.Rules.{rules}
 use Rattle.ouriscado.proofs.page_entries.ouriscado_sh_page_decode_slice_into.Statement.{statement}
 use Rattle.ouriscado.proofs.page_entries.ouriscado_sh_page_decode_slice_into.Tie as tie
 
-sh-page-decode-slice-into-requires : tie.Need-sh-page-decode-slice-into-requires
-sh-page-decode-slice-into-requires c κs = search rules
+sh_page_decode_slice_into-got-requires : tie.Need-sh_page_decode_slice_into-got-requires
+sh_page_decode_slice_into-got-requires c κs = search rules
 
-enum-known-got : tie.Need-enum-known-got
-enum-known-got c = search rules
+enum_known-got : tie.Need-enum_known-got
+enum_known-got c = search rules
 
-enum_told : tie.Need-enum-told
-enum_told c = search rules
+enum_told-1 : tie.Need-enum_told-1
+enum_told-1 c = search rules
 
 refusal-requires : tie.Need-refusal-requires
 refusal-requires c κs = search rules
 
-same_length : tie.Need-same-length
-same_length c = search rules
+shape_of-out-in_default : tie.Need-shape_of-out-in_default
+shape_of-out-in_default c = search rules
 
-returns : tie.Need-returns
+returns-in_default : tie.Need-returns-in_default
 unfolding page_read_of
-returns c =
-    let e = c.before.before.before.before.before.sh-page-decode-slice-into.ensures in
-    let no = sym e.0 ∙ ap slice_answer c.before.enum_told.given.1 in (
+returns-in_default c =
+    let e = c.before.before.before.before.before.sh_page_decode_slice_into-got.ensures in
+    let no = sym e.0 ∙ ap slice_answer c.before.enum_told-1.given.1 in (
       c.refusal.ensures ∙ ap refusal_of e.0
           ∙ number_answered (page_read_of _) _,
       (
@@ -42,14 +42,14 @@ returns c =
       ),
     )
 
-same-length-2 : tie.Need-same-length-2
-same-length-2 c = search rules
+shape_of-out : tie.Need-shape_of-out
+shape_of-out c = search rules
 
-returns-2 : tie.Need-returns-2
+returns : tie.Need-returns
 unfolding page_read_of
-returns-2 c =
-    let e = c.before.before.before.before.before.sh-page-decode-slice-into.ensures in
-    let yes = sym e.0 ∙ ap slice_answer c.before.got.given.1 in (
+returns c =
+    let e = c.before.before.before.before.before.sh_page_decode_slice_into-got.ensures in
+    let yes = sym e.0 ∙ ap slice_answer c.before.got-1.given.1 in (
       number_accepted yes
           ∙ number_answered (page_read_of _) _,
       (
@@ -64,7 +64,7 @@ returns-2 c =
       ),
     )
 
-pub ouriscado-sh-page-decode-slice-into-spec : {M : Type 1} → statement M
-ouriscado-sh-page-decode-slice-into-spec =
-    tie.close (tie.spec sh-page-decode-slice-into-requires enum-known-got enum_told refusal-requires same_length returns same-length-2
-    returns-2)
+pub ouriscado_sh_page_decode_slice_into_spec : {M : Type 1} → statement M
+ouriscado_sh_page_decode_slice_into_spec =
+    tie.close (tie.spec sh_page_decode_slice_into-got-requires enum_known-got enum_told-1 refusal-requires shape_of-out-in_default returns-in_default shape_of-out
+    returns)

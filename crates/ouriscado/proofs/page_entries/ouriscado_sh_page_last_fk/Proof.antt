@@ -8,29 +8,29 @@ use borrow.Author.Rules.{rules}
 use Rattle.ouriscado.proofs.page_entries.ouriscado_sh_page_last_fk.Statement.{statement}
 use Rattle.ouriscado.proofs.page_entries.ouriscado_sh_page_last_fk.Tie as tie
 
-sh-page-last-fk-requires : tie.Need-sh-page-last-fk-requires
-sh-page-last-fk-requires c κs = search rules
+sh_page_last_fk-got-requires : tie.Need-sh_page_last_fk-got-requires
+sh_page_last_fk-got-requires c κs = search rules
 
-enum-known-got : tie.Need-enum-known-got
-enum-known-got c = search rules
+enum_known-got : tie.Need-enum_known-got
+enum_known-got c = search rules
 
-enum_told : tie.Need-enum-told
-enum_told c = search rules
+enum_told-1 : tie.Need-enum_told-1
+enum_told-1 c = search rules
 
 refusal-requires : tie.Need-refusal-requires
 refusal-requires c κs = search rules
 
-returns : tie.Need-returns
-returns c =
-    let e = c.before.before.before.sh-page-last-fk.ensures in
-    let no = sym e ∙ ap last_fk_answer c.before.enum_told.given.1 in
+returns-in_default : tie.Need-returns-in_default
+returns-in_default c =
+    let e = c.before.before.before.sh_page_last_fk-got.ensures in
+    let no = sym e ∙ ap last_fk_answer c.before.enum_told-1.given.1 in
     (c.refusal.ensures ∙ ap refusal_of e ∙ number_answered last_of _, value_refused (λ x. x) _ no ∙ value_answered (λ x. x) last_of _ _)
 
-returns-2 : tie.Need-returns-2
-returns-2 c =
-    let e = c.before.before.before.sh-page-last-fk.ensures in
-    let yes = sym e ∙ ap last_fk_answer c.before.got.given.1 in
+returns : tie.Need-returns
+returns c =
+    let e = c.before.before.before.sh_page_last_fk-got.ensures in
+    let yes = sym e ∙ ap last_fk_answer c.before.got-1.given.1 in
     (number_accepted yes ∙ number_answered last_of _, value_accepted (λ x. x) _ yes ∙ value_answered (λ x. x) last_of _ _)
 
-pub ouriscado-sh-page-last-fk-spec : {M : Type 1} → statement M
-ouriscado-sh-page-last-fk-spec = tie.close (tie.spec sh-page-last-fk-requires enum-known-got enum_told refusal-requires returns returns-2)
+pub ouriscado_sh_page_last_fk_spec : {M : Type 1} → statement M
+ouriscado_sh_page_last_fk_spec = tie.close (tie.spec sh_page_last_fk-got-requires enum_known-got enum_told-1 refusal-requires returns-in_default returns)

@@ -8,22 +8,22 @@ use borrow.Author.Rules.{rules}
 use Rattle.ouriscado.proofs.page_entries.ouriscado_sh_page_stream_tail.Statement.{statement}
 use Rattle.ouriscado.proofs.page_entries.ouriscado_sh_page_stream_tail.Tie as tie
 
-sh-page-stream-tail-requires : tie.Need-sh-page-stream-tail-requires
-sh-page-stream-tail-requires c κs = search rules
+sh_page_stream_tail-got-requires : tie.Need-sh_page_stream_tail-got-requires
+sh_page_stream_tail-got-requires c κs = search rules
 
-enum-known-got : tie.Need-enum-known-got
-enum-known-got c = search rules
+enum_known-got : tie.Need-enum_known-got
+enum_known-got c = search rules
 
-enum_told : tie.Need-enum-told
-enum_told c = search rules
+enum_told-1 : tie.Need-enum_told-1
+enum_told-1 c = search rules
 
 refusal-requires : tie.Need-refusal-requires
 refusal-requires c κs = search rules
 
-returns : tie.Need-returns
-returns c =
-    let e = c.before.before.before.sh-page-stream-tail.ensures in
-    let no = sym e ∙ ap scan_answer c.before.enum_told.given.1 in (
+returns-in_default : tie.Need-returns-in_default
+returns-in_default c =
+    let e = c.before.before.before.sh_page_stream_tail-got.ensures in
+    let no = sym e ∙ ap scan_answer c.before.enum_told-1.given.1 in (
       c.refusal.ensures ∙ ap refusal_of e
           ∙ number_answered (end_from 0) _,
       (
@@ -33,10 +33,10 @@ returns c =
       ),
     )
 
-returns-2 : tie.Need-returns-2
-returns-2 c =
-    let e = c.before.before.before.sh-page-stream-tail.ensures in
-    let yes = sym e ∙ ap scan_answer c.before.got.given.1 in (
+returns : tie.Need-returns
+returns c =
+    let e = c.before.before.before.sh_page_stream_tail-got.ensures in
+    let yes = sym e ∙ ap scan_answer c.before.got-1.given.1 in (
       number_accepted yes
           ∙ number_answered (end_from 0) _,
       (
@@ -46,6 +46,6 @@ returns-2 c =
       ),
     )
 
-pub ouriscado-sh-page-stream-tail-spec : {M : Type 1} → statement M
-ouriscado-sh-page-stream-tail-spec =
-    tie.close (tie.spec sh-page-stream-tail-requires enum-known-got enum_told refusal-requires returns returns-2)
+pub ouriscado_sh_page_stream_tail_spec : {M : Type 1} → statement M
+ouriscado_sh_page_stream_tail_spec =
+    tie.close (tie.spec sh_page_stream_tail-got-requires enum_known-got enum_told-1 refusal-requires returns-in_default returns)

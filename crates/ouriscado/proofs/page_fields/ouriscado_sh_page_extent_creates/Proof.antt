@@ -6,16 +6,16 @@ use borrow.Author.Rules.{rules}
 use Rattle.ouriscado.proofs.page_fields.ouriscado_sh_page_extent_creates.Statement.{statement}
 use Rattle.ouriscado.proofs.page_fields.ouriscado_sh_page_extent_creates.Tie as tie
 
-sh-page-extent-creates-requires : tie.Need-sh-page-extent-creates-requires
-sh-page-extent-creates-requires c κs = search rules
+sh_page_extent_creates-requires : tie.Need-sh_page_extent_creates-requires
+sh_page_extent_creates-requires c κs = search rules
 
-put-creates-requires : tie.Need-put-creates-requires
-put-creates-requires c κs = search rules
+put_creates-requires : tie.Need-put_creates-requires
+put_creates-requires c κs = search rules
 
 returns : tie.Need-returns
 returns c =
-    let e = c.before.before.sh-page-extent-creates.ensures in
-    (c.put-creates.ensures.0 ∙ ap refusal_of e, c.put-creates.ensures.1 ∙ value_same (λ x. x) _ e)
+    let e = c.before.before.sh_page_extent_creates.ensures in
+    (c.put_creates.ensures.0 ∙ ap refusal_of e, c.put_creates.ensures.1 ∙ value_same (λ x. x) _ e)
 
-pub ouriscado-sh-page-extent-creates-spec : {M : Type 1} → statement M
-ouriscado-sh-page-extent-creates-spec = tie.close (tie.spec sh-page-extent-creates-requires put-creates-requires returns)
+pub ouriscado_sh_page_extent_creates_spec : {M : Type 1} → statement M
+ouriscado_sh_page_extent_creates_spec = tie.close (tie.spec sh_page_extent_creates-requires put_creates-requires returns)

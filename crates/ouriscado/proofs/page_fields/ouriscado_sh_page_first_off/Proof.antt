@@ -6,16 +6,16 @@ use borrow.Author.Rules.{rules}
 use Rattle.ouriscado.proofs.page_fields.ouriscado_sh_page_first_off.Statement.{statement}
 use Rattle.ouriscado.proofs.page_fields.ouriscado_sh_page_first_off.Tie as tie
 
-sh-page-first-off-requires : tie.Need-sh-page-first-off-requires
-sh-page-first-off-requires c κs = search rules
+sh_page_first_off-requires : tie.Need-sh_page_first_off-requires
+sh_page_first_off-requires c κs = search rules
 
-put-offset-requires : tie.Need-put-offset-requires
-put-offset-requires c κs = search rules
+put_offset-requires : tie.Need-put_offset-requires
+put_offset-requires c κs = search rules
 
 returns : tie.Need-returns
 returns c =
-    let e = c.before.before.sh-page-first-off.ensures in
-    (c.put-offset.ensures.0 ∙ ap refusal_of e, c.put-offset.ensures.1 ∙ value_same (λ x. x) _ e)
+    let e = c.before.before.sh_page_first_off.ensures in
+    (c.put_offset.ensures.0 ∙ ap refusal_of e, c.put_offset.ensures.1 ∙ value_same (λ x. x) _ e)
 
-pub ouriscado-sh-page-first-off-spec : {M : Type 1} → statement M
-ouriscado-sh-page-first-off-spec = tie.close (tie.spec sh-page-first-off-requires put-offset-requires returns)
+pub ouriscado_sh_page_first_off_spec : {M : Type 1} → statement M
+ouriscado_sh_page_first_off_spec = tie.close (tie.spec sh_page_first_off-requires put_offset-requires returns)

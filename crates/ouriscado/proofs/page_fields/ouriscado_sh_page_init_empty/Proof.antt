@@ -7,20 +7,20 @@ use borrow.Author.Rules.{rules}
 use Rattle.ouriscado.proofs.page_fields.ouriscado_sh_page_init_empty.Statement.{statement}
 use Rattle.ouriscado.proofs.page_fields.ouriscado_sh_page_init_empty.Tie as tie
 
-sh-page-init-empty-requires : tie.Need-sh-page-init-empty-requires
-sh-page-init-empty-requires c κs = search rules
+sh_page_init_empty-got-requires : tie.Need-sh_page_init_empty-got-requires
+sh_page_init_empty-got-requires c κs = search rules
 
 refusal-requires : tie.Need-refusal-requires
 refusal-requires c κs = search rules
 
-same_length : tie.Need-same-length
-same_length c = search rules
+shape_of-page : tie.Need-shape_of-page
+shape_of-page c = search rules
 
 returns : tie.Need-returns
 returns c =
     let a = c.before.before.before.before.before.before.args in
-    let e = c.before.before.before.sh-page-init-empty.ensures in
+    let e = c.before.before.before.sh_page_init_empty-got.ensures in
     (c.refusal.ensures ∙ ap refusal_of e.0 ∙ number_done (init_empty a.page.now), e.1)
 
-pub ouriscado-sh-page-init-empty-spec : {M : Type 1} → statement M
-ouriscado-sh-page-init-empty-spec = tie.close (tie.spec sh-page-init-empty-requires refusal-requires same_length returns)
+pub ouriscado_sh_page_init_empty_spec : {M : Type 1} → statement M
+ouriscado_sh_page_init_empty_spec = tie.close (tie.spec sh_page_init_empty-got-requires refusal-requires shape_of-page returns)

@@ -6,16 +6,16 @@ use borrow.Author.Rules.{rules}
 use Rattle.ouriscado.proofs.page_fields.ouriscado_sh_page_n_fks.Statement.{statement}
 use Rattle.ouriscado.proofs.page_fields.ouriscado_sh_page_n_fks.Tie as tie
 
-sh-page-n-fks-requires : tie.Need-sh-page-n-fks-requires
-sh-page-n-fks-requires c κs = search rules
+sh_page_n_fks-requires : tie.Need-sh_page_n_fks-requires
+sh_page_n_fks-requires c κs = search rules
 
-put-count-requires : tie.Need-put-count-requires
-put-count-requires c κs = search rules
+put_count-requires : tie.Need-put_count-requires
+put_count-requires c κs = search rules
 
 returns : tie.Need-returns
 returns c =
-    let e = c.before.before.sh-page-n-fks.ensures in
+    let e = c.before.before.sh_page_n_fks.ensures in
     (c.put_count.ensures.0 ∙ ap refusal_of e, c.put_count.ensures.1 ∙ value_same (λ x. x) _ e)
 
-pub ouriscado-sh-page-n-fks-spec : {M : Type 1} → statement M
-ouriscado-sh-page-n-fks-spec = tie.close (tie.spec sh-page-n-fks-requires put-count-requires returns)
+pub ouriscado_sh_page_n_fks_spec : {M : Type 1} → statement M
+ouriscado_sh_page_n_fks_spec = tie.close (tie.spec sh_page_n_fks-requires put_count-requires returns)

@@ -5,14 +5,14 @@ use borrow.Author.Rules.{rules}
 use Rattle.ouriscado.proofs.page_fields.ouriscado_sh_page_require_delta.Statement.{statement}
 use Rattle.ouriscado.proofs.page_fields.ouriscado_sh_page_require_delta.Tie as tie
 
-sh-page-require-delta-requires : tie.Need-sh-page-require-delta-requires
-sh-page-require-delta-requires c κs = search rules
+sh_page_require_delta-got-requires : tie.Need-sh_page_require_delta-got-requires
+sh_page_require_delta-got-requires c κs = search rules
 
 refusal-requires : tie.Need-refusal-requires
 refusal-requires c κs = search rules
 
 returns : tie.Need-returns
-returns c = c.refusal.ensures ∙ ap refusal_of c.before.sh-page-require-delta.ensures
+returns c = c.refusal.ensures ∙ ap refusal_of c.before.sh_page_require_delta-got.ensures
 
-pub ouriscado-sh-page-require-delta-spec : {M : Type 1} → statement M
-ouriscado-sh-page-require-delta-spec = tie.close (tie.spec sh-page-require-delta-requires refusal-requires returns)
+pub ouriscado_sh_page_require_delta_spec : {M : Type 1} → statement M
+ouriscado_sh_page_require_delta_spec = tie.close (tie.spec sh_page_require_delta-got-requires refusal-requires returns)

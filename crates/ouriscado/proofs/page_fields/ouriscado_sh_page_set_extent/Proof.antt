@@ -7,20 +7,20 @@ use borrow.Author.Rules.{rules}
 use Rattle.ouriscado.proofs.page_fields.ouriscado_sh_page_set_extent.Statement.{statement}
 use Rattle.ouriscado.proofs.page_fields.ouriscado_sh_page_set_extent.Tie as tie
 
-sh-page-set-extent-requires : tie.Need-sh-page-set-extent-requires
-sh-page-set-extent-requires c κs = search rules
+sh_page_set_extent-got-requires : tie.Need-sh_page_set_extent-got-requires
+sh_page_set_extent-got-requires c κs = search rules
 
 refusal-requires : tie.Need-refusal-requires
 refusal-requires c κs = search rules
 
-same_length : tie.Need-same-length
-same_length c = search rules
+shape_of-page : tie.Need-shape_of-page
+shape_of-page c = search rules
 
 returns : tie.Need-returns
 returns c =
     let a = c.before.before.before.before.before.before.args in
-    let e = c.before.before.before.sh-page-set-extent.ensures in
+    let e = c.before.before.before.sh_page_set_extent-got.ensures in
     (c.refusal.ensures ∙ ap refusal_of e.0 ∙ number_done (set_extent a.page.now a.base a.n), e.1)
 
-pub ouriscado-sh-page-set-extent-spec : {M : Type 1} → statement M
-ouriscado-sh-page-set-extent-spec = tie.close (tie.spec sh-page-set-extent-requires refusal-requires same_length returns)
+pub ouriscado_sh_page_set_extent_spec : {M : Type 1} → statement M
+ouriscado_sh_page_set_extent_spec = tie.close (tie.spec sh_page_set_extent-got-requires refusal-requires shape_of-page returns)

@@ -7,20 +7,20 @@ use borrow.Author.Rules.{rules}
 use Rattle.ouriscado.proofs.page_fields.ouriscado_sh_page_set_n_fks.Statement.{statement}
 use Rattle.ouriscado.proofs.page_fields.ouriscado_sh_page_set_n_fks.Tie as tie
 
-sh-page-set-n-fks-requires : tie.Need-sh-page-set-n-fks-requires
-sh-page-set-n-fks-requires c κs = search rules
+sh_page_set_n_fks-got-requires : tie.Need-sh_page_set_n_fks-got-requires
+sh_page_set_n_fks-got-requires c κs = search rules
 
 refusal-requires : tie.Need-refusal-requires
 refusal-requires c κs = search rules
 
-same_length : tie.Need-same-length
-same_length c = search rules
+shape_of-page : tie.Need-shape_of-page
+shape_of-page c = search rules
 
 returns : tie.Need-returns
 returns c =
     let a = c.before.before.before.before.before.before.args in
-    let e = c.before.before.before.sh-page-set-n-fks.ensures in
+    let e = c.before.before.before.sh_page_set_n_fks-got.ensures in
     (c.refusal.ensures ∙ ap refusal_of e.0 ∙ number_done (set_count a.page.now a.n), e.1)
 
-pub ouriscado-sh-page-set-n-fks-spec : {M : Type 1} → statement M
-ouriscado-sh-page-set-n-fks-spec = tie.close (tie.spec sh-page-set-n-fks-requires refusal-requires same_length returns)
+pub ouriscado_sh_page_set_n_fks_spec : {M : Type 1} → statement M
+ouriscado_sh_page_set_n_fks_spec = tie.close (tie.spec sh_page_set_n_fks-got-requires refusal-requires shape_of-page returns)

@@ -8,20 +8,20 @@ use borrow.Author.Rules.{rules}
 use Rattle.ouriscado.proofs.page_fields.ouriscado_sh_page_set_next.Statement.{statement}
 use Rattle.ouriscado.proofs.page_fields.ouriscado_sh_page_set_next.Tie as tie
 
-sh-page-set-next-requires : tie.Need-sh-page-set-next-requires
-sh-page-set-next-requires c κs = search rules
+sh_page_set_next-got-requires : tie.Need-sh_page_set_next-got-requires
+sh_page_set_next-got-requires c κs = search rules
 
 refusal-requires : tie.Need-refusal-requires
 refusal-requires c κs = search rules
 
-same_length : tie.Need-same-length
-same_length c = search rules
+shape_of-page : tie.Need-shape_of-page
+shape_of-page c = search rules
 
 returns : tie.Need-returns
 returns c =
     let a = c.before.before.before.before.before.before.args in
-    let e = c.before.before.before.sh-page-set-next.ensures in
+    let e = c.before.before.before.sh_page_set_next-got.ensures in
     (c.refusal.ensures ∙ ap refusal_of e.0 ∙ number_done (write_link a.page.now false a.off), e.1)
 
-pub ouriscado-sh-page-set-next-spec : {M : Type 1} → statement M
-ouriscado-sh-page-set-next-spec = tie.close (tie.spec sh-page-set-next-requires refusal-requires same_length returns)
+pub ouriscado_sh_page_set_next_spec : {M : Type 1} → statement M
+ouriscado_sh_page_set_next_spec = tie.close (tie.spec sh_page_set_next-got-requires refusal-requires shape_of-page returns)

@@ -6,16 +6,16 @@ use borrow.Author.Rules.{rules}
 use Rattle.ouriscado.proofs.page_fields.ouriscado_sh_page_stream_off.Statement.{statement}
 use Rattle.ouriscado.proofs.page_fields.ouriscado_sh_page_stream_off.Tie as tie
 
-sh-page-stream-off-requires : tie.Need-sh-page-stream-off-requires
-sh-page-stream-off-requires c κs = search rules
+sh_page_stream_off-requires : tie.Need-sh_page_stream_off-requires
+sh_page_stream_off-requires c κs = search rules
 
-put-count-requires : tie.Need-put-count-requires
-put-count-requires c κs = search rules
+put_count-requires : tie.Need-put_count-requires
+put_count-requires c κs = search rules
 
 returns : tie.Need-returns
 returns c =
-    let e = c.before.before.sh-page-stream-off.ensures in
+    let e = c.before.before.sh_page_stream_off.ensures in
     (c.put_count.ensures.0 ∙ ap refusal_of e, c.put_count.ensures.1 ∙ value_same (λ x. x) _ e)
 
-pub ouriscado-sh-page-stream-off-spec : {M : Type 1} → statement M
-ouriscado-sh-page-stream-off-spec = tie.close (tie.spec sh-page-stream-off-requires put-count-requires returns)
+pub ouriscado_sh_page_stream_off_spec : {M : Type 1} → statement M
+ouriscado_sh_page_stream_off_spec = tie.close (tie.spec sh_page_stream_off-requires put_count-requires returns)

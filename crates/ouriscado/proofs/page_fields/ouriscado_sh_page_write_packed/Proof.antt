@@ -7,20 +7,20 @@ use borrow.Author.Rules.{rules}
 use Rattle.ouriscado.proofs.page_fields.ouriscado_sh_page_write_packed.Statement.{statement}
 use Rattle.ouriscado.proofs.page_fields.ouriscado_sh_page_write_packed.Tie as tie
 
-sh-page-write-packed-requires : tie.Need-sh-page-write-packed-requires
-sh-page-write-packed-requires c κs = search rules
+sh_page_write_packed-got-requires : tie.Need-sh_page_write_packed-got-requires
+sh_page_write_packed-got-requires c κs = search rules
 
 refusal-requires : tie.Need-refusal-requires
 refusal-requires c κs = search rules
 
-same_length : tie.Need-same-length
-same_length c = search rules
+shape_of-page : tie.Need-shape_of-page
+shape_of-page c = search rules
 
 returns : tie.Need-returns
 returns c =
     let a = c.before.before.before.before.before.before.args in
-    let e = c.before.before.before.sh-page-write-packed.ensures in
+    let e = c.before.before.before.sh_page_write_packed-got.ensures in
     (c.refusal.ensures ∙ ap refusal_of e.0 ∙ number_done (write_link a.page.now a.last a.off), e.1)
 
-pub ouriscado-sh-page-write-packed-spec : {M : Type 1} → statement M
-ouriscado-sh-page-write-packed-spec = tie.close (tie.spec sh-page-write-packed-requires refusal-requires same_length returns)
+pub ouriscado_sh_page_write_packed_spec : {M : Type 1} → statement M
+ouriscado_sh_page_write_packed_spec = tie.close (tie.spec sh_page_write_packed-got-requires refusal-requires shape_of-page returns)

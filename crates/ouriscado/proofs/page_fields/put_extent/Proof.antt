@@ -7,29 +7,29 @@ use borrow.Author.Rules.{rules}
 use Rattle.ouriscado.proofs.page_fields.put_extent.Statement.{statement}
 use Rattle.ouriscado.proofs.page_fields.put_extent.Tie as tie
 
-enum-known-got : tie.Need-enum-known-got
-enum-known-got c = search rules
+enum_known-got : tie.Need-enum_known-got
+enum_known-got c = search rules
 
-enum_told : tie.Need-enum-told
-enum_told c = search rules
+enum_told-1 : tie.Need-enum_told-1
+enum_told-1 c = search rules
 
-enum-known-got-2 : tie.Need-enum-known-got-2
-enum-known-got-2 c = search rules
+enum_known-got-in-Refused-1 : tie.Need-enum_known-got-in-Refused-1
+enum_known-got-in-Refused-1 c = search rules
 
-returns : tie.Need-returns
-returns c =
-    let yes = ap extent_answer c.before.got.given.1 in
+returns-in-Extent : tie.Need-returns-in-Extent
+returns-in-Extent c =
+    let yes = ap extent_answer c.before.got-1.given.1 in
     (number_accepted yes, (value_accepted base_or0 _ yes, value_accepted count_or0 _ yes))
 
-returns-2 : tie.Need-returns-2
-returns-2 c =
-    let yes = ap extent_answer c.enum_told.given.1 in
+returns-in-Nothing : tie.Need-returns-in-Nothing
+returns-in-Nothing c =
+    let yes = ap extent_answer c.enum_told-1.given.1 in
     (number_accepted yes, (value_accepted base_or0 _ yes, value_accepted count_or0 _ yes))
 
-returns-3 : tie.Need-returns-3
-returns-3 c =
-    let no = ap extent_answer c.before.got2.given.1 in
+returns-in-Refused : tie.Need-returns-in-Refused
+returns-in-Refused c =
+    let no = ap extent_answer c.before.got-in-Refused-1.given.1 in
     (number_refused no, (value_refused base_or0 _ no, value_refused count_or0 _ no))
 
-pub put-extent-spec : {M : Type 1} → statement M
-put-extent-spec = tie.close (tie.spec enum-known-got enum_told enum-known-got-2 returns returns-2 returns-3)
+pub put_extent_spec : {M : Type 1} → statement M
+put_extent_spec = tie.close (tie.spec enum_known-got enum_told-1 enum_known-got-in-Refused-1 returns-in-Extent returns-in-Nothing returns-in-Refused)

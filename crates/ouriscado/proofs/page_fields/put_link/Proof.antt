@@ -6,21 +6,21 @@ use borrow.Author.Rules.{rules}
 use Rattle.ouriscado.proofs.page_fields.put_link.Statement.{statement}
 use Rattle.ouriscado.proofs.page_fields.put_link.Tie as tie
 
-enum-known-got : tie.Need-enum-known-got
-enum-known-got c = search rules
+enum_known-got : tie.Need-enum_known-got
+enum_known-got c = search rules
 
-enum-known-got-2 : tie.Need-enum-known-got-2
-enum-known-got-2 c = search rules
+enum_known-got-in-Refused-1 : tie.Need-enum_known-got-in-Refused-1
+enum_known-got-in-Refused-1 c = search rules
 
-returns : tie.Need-returns
-returns c =
-    let yes = ap link_answer c.before.got.given.1 in
+returns-in-Link : tie.Need-returns-in-Link
+returns-in-Link c =
+    let yes = ap link_answer c.before.got-1.given.1 in
     (number_accepted yes, (value_accepted (λ l. l.last) _ yes, value_accepted (λ l. l.off) _ yes))
 
-returns-2 : tie.Need-returns-2
-returns-2 c =
-    let no = ap link_answer c.before.got2.given.1 in
+returns-in-Refused : tie.Need-returns-in-Refused
+returns-in-Refused c =
+    let no = ap link_answer c.before.got-in-Refused-1.given.1 in
     (number_refused no, (value_refused (λ l. l.last) _ no, value_refused (λ l. l.off) _ no))
 
-pub put-link-spec : {M : Type 1} → statement M
-put-link-spec = tie.close (tie.spec enum-known-got enum-known-got-2 returns returns-2)
+pub put_link_spec : {M : Type 1} → statement M
+put_link_spec = tie.close (tie.spec enum_known-got enum_known-got-in-Refused-1 returns-in-Link returns-in-Refused)

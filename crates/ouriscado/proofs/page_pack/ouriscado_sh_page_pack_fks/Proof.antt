@@ -7,20 +7,20 @@ use borrow.Author.Rules.{rules}
 use Rattle.ouriscado.proofs.page_pack.ouriscado_sh_page_pack_fks.Statement.{statement}
 use Rattle.ouriscado.proofs.page_pack.ouriscado_sh_page_pack_fks.Tie as tie
 
-sh-page-pack-fks-requires : tie.Need-sh-page-pack-fks-requires
-sh-page-pack-fks-requires c κs = search rules
+sh_page_pack_fks-got-requires : tie.Need-sh_page_pack_fks-got-requires
+sh_page_pack_fks-got-requires c κs = search rules
 
 refusal-requires : tie.Need-refusal-requires
 refusal-requires c κs = search rules
 
-same_length : tie.Need-same-length
-same_length c = search rules
+shape_of-page : tie.Need-shape_of-page
+shape_of-page c = search rules
 
 returns : tie.Need-returns
 returns c =
     let a = c.before.before.before.before.before.before.before.args in
-    let e = c.before.before.before.sh-page-pack-fks.ensures in
+    let e = c.before.before.before.sh_page_pack_fks-got.ensures in
     (c.refusal.ensures ∙ ap refusal_of e.0 ∙ number_done (pack_page a.page.now a.fks.now a.next), e.1)
 
-pub ouriscado-sh-page-pack-fks-spec : {M : Type 1} → statement M
-ouriscado-sh-page-pack-fks-spec = tie.close (tie.spec sh-page-pack-fks-requires refusal-requires same_length returns)
+pub ouriscado_sh_page_pack_fks_spec : {M : Type 1} → statement M
+ouriscado_sh_page_pack_fks_spec = tie.close (tie.spec sh_page_pack_fks-got-requires refusal-requires shape_of-page returns)

@@ -9,25 +9,25 @@ use borrow.Author.Rules.{rules}
 use Rattle.ouriscado.proofs.slab.ouriscado_decode_slab_payload_into.Statement.{statement}
 use Rattle.ouriscado.proofs.slab.ouriscado_decode_slab_payload_into.Tie as tie
 
-decode-slab-payload-into-requires : tie.Need-decode-slab-payload-into-requires
-decode-slab-payload-into-requires c κs = search rules
+decode_slab_payload_into-got-requires : tie.Need-decode_slab_payload_into-got-requires
+decode_slab_payload_into-got-requires c κs = search rules
 
-enum-known-got : tie.Need-enum-known-got
-enum-known-got c = search rules
+enum_known-got : tie.Need-enum_known-got
+enum_known-got c = search rules
 
-enum_told : tie.Need-enum-told
-enum_told c = search rules
+enum_told-1 : tie.Need-enum_told-1
+enum_told-1 c = search rules
 
 refusal-requires : tie.Need-refusal-requires
 refusal-requires c κs = search rules
 
-same_length : tie.Need-same-length
-same_length c = search rules
+shape_of-out-in_default : tie.Need-shape_of-out-in_default
+shape_of-out-in_default c = search rules
 
-returns : tie.Need-returns
-returns c =
-    let e = c.before.before.before.before.before.decode-slab-payload-into.ensures in
-    let no = sym e.0 ∙ ap slab_answer c.before.enum_told.given.1 in (
+returns-in_default : tie.Need-returns-in_default
+returns-in_default c =
+    let e = c.before.before.before.before.before.decode_slab_payload_into-got.ensures in
+    let no = sym e.0 ∙ ap slab_answer c.before.enum_told-1.given.1 in (
       c.refusal.ensures ∙ ap refusal_of e.0
           ∙ number_answered (slab_list_of _) _,
       (
@@ -42,13 +42,13 @@ returns c =
       ),
     )
 
-same-length-2 : tie.Need-same-length-2
-same-length-2 c = search rules
+shape_of-out : tie.Need-shape_of-out
+shape_of-out c = search rules
 
-returns-2 : tie.Need-returns-2
-returns-2 c =
-    let e = c.before.before.before.before.before.decode-slab-payload-into.ensures in
-    let yes = sym e.0 ∙ ap slab_answer c.before.got.given.1 in (
+returns : tie.Need-returns
+returns c =
+    let e = c.before.before.before.before.before.decode_slab_payload_into-got.ensures in
+    let yes = sym e.0 ∙ ap slab_answer c.before.got-1.given.1 in (
       number_accepted yes
           ∙ number_answered (slab_list_of _) _,
       (
@@ -63,7 +63,7 @@ returns-2 c =
       ),
     )
 
-pub ouriscado-decode-slab-payload-into-spec : {M : Type 1} → statement M
-ouriscado-decode-slab-payload-into-spec =
-    tie.close (tie.spec decode-slab-payload-into-requires enum-known-got enum_told refusal-requires same_length returns same-length-2
-    returns-2)
+pub ouriscado_decode_slab_payload_into_spec : {M : Type 1} → statement M
+ouriscado_decode_slab_payload_into_spec =
+    tie.close (tie.spec decode_slab_payload_into-got-requires enum_known-got enum_told-1 refusal-requires shape_of-out-in_default returns-in_default shape_of-out
+    returns)

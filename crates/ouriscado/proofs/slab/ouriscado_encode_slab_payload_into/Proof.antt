@@ -6,20 +6,20 @@ use borrow.Author.Rules.{rules}
 use Rattle.ouriscado.proofs.slab.ouriscado_encode_slab_payload_into.Statement.{statement}
 use Rattle.ouriscado.proofs.slab.ouriscado_encode_slab_payload_into.Tie as tie
 
-encode-slab-payload-into-requires : tie.Need-encode-slab-payload-into-requires
-encode-slab-payload-into-requires c κs = search rules
+encode_slab_payload_into-got-requires : tie.Need-encode_slab_payload_into-got-requires
+encode_slab_payload_into-got-requires c κs = search rules
 
-put-bytes-requires : tie.Need-put-bytes-requires
-put-bytes-requires c κs = search rules
+put_bytes-requires : tie.Need-put_bytes-requires
+put_bytes-requires c κs = search rules
 
-same_length : tie.Need-same-length
-same_length c = search rules
+shape_of-out : tie.Need-shape_of-out
+shape_of-out c = search rules
 
 returns : tie.Need-returns
 returns c =
-    let e = c.before.before.before.before.encode-slab-payload-into.ensures in
-    let h = c.put-bytes.ensures in
+    let e = c.before.before.before.before.encode_slab_payload_into-got.ensures in
+    let h = c.put_bytes.ensures in
     (h.0 ∙ ap refusal_of e.0, (e.1, h.1 ∙ value_same (λ x. x) _ e.0))
 
-pub ouriscado-encode-slab-payload-into-spec : {M : Type 1} → statement M
-ouriscado-encode-slab-payload-into-spec = tie.close (tie.spec encode-slab-payload-into-requires put-bytes-requires same_length returns)
+pub ouriscado_encode_slab_payload_into_spec : {M : Type 1} → statement M
+ouriscado_encode_slab_payload_into_spec = tie.close (tie.spec encode_slab_payload_into-got-requires put_bytes-requires shape_of-out returns)

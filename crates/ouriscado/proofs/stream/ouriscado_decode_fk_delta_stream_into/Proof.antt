@@ -7,19 +7,19 @@ use borrow.Author.Rules.{rules}
 use Rattle.ouriscado.proofs.stream.ouriscado_decode_fk_delta_stream_into.Statement.{statement}
 use Rattle.ouriscado.proofs.stream.ouriscado_decode_fk_delta_stream_into.Tie as tie
 
-decode-fk-delta-stream-into-requires : tie.Need-decode-fk-delta-stream-into-requires
-decode-fk-delta-stream-into-requires c κs = search rules
+decode_fk_delta_stream_into-got-requires : tie.Need-decode_fk_delta_stream_into-got-requires
+decode_fk_delta_stream_into-got-requires c κs = search rules
 
-put-read-requires : tie.Need-put-read-requires
-put-read-requires c κs = search rules
+put_read-requires : tie.Need-put_read-requires
+put_read-requires c κs = search rules
 
-same_length : tie.Need-same-length
-same_length c = search rules
+shape_of-out : tie.Need-shape_of-out
+shape_of-out c = search rules
 
 returns : tie.Need-returns
 returns c =
-    let e = c.before.before.before.before.before.decode-fk-delta-stream-into.ensures in
-    let h = c.put-read.ensures in (
+    let e = c.before.before.before.before.before.decode_fk_delta_stream_into-got.ensures in
+    let h = c.put_read.ensures in (
       h.0 ∙ ap refusal_of e.0
           ∙ number_answered (stream_told _ _) _,
       (
@@ -32,6 +32,6 @@ returns c =
       ),
     )
 
-pub ouriscado-decode-fk-delta-stream-into-spec : {M : Type 1} → statement M
-ouriscado-decode-fk-delta-stream-into-spec =
-    tie.close (tie.spec decode-fk-delta-stream-into-requires put-read-requires same_length returns)
+pub ouriscado_decode_fk_delta_stream_into_spec : {M : Type 1} → statement M
+ouriscado_decode_fk_delta_stream_into_spec =
+    tie.close (tie.spec decode_fk_delta_stream_into-got-requires put_read-requires shape_of-out returns)

@@ -7,36 +7,36 @@ use borrow.Author.Rules.{rules}
 use Rattle.ouriscado.proofs.uleb128.ouriscado_write_uleb128_into.Statement.{statement}
 use Rattle.ouriscado.proofs.uleb128.ouriscado_write_uleb128_into.Tie as tie
 
-write-uleb128-into-requires : tie.Need-write-uleb128-into-requires
-write-uleb128-into-requires c κs = search rules
+write_uleb128_into-got-requires : tie.Need-write_uleb128_into-got-requires
+write_uleb128_into-got-requires c κs = search rules
 
-enum-known-got : tie.Need-enum-known-got
-enum-known-got c = search rules
+enum_known-got : tie.Need-enum_known-got
+enum_known-got c = search rules
 
-enum_told : tie.Need-enum-told
-enum_told c = search rules
+enum_told-1 : tie.Need-enum_told-1
+enum_told-1 c = search rules
 
 refusal-requires : tie.Need-refusal-requires
 refusal-requires c κs = search rules
 
-same_length : tie.Need-same-length
-same_length c = search rules
+shape_of-dst-in_default : tie.Need-shape_of-dst-in_default
+shape_of-dst-in_default c = search rules
+
+returns-in_default : tie.Need-returns-in_default
+returns-in_default c =
+    let e = c.before.before.before.before.before.write_uleb128_into-got.ensures in
+    let no = sym e.0 ∙ ap write_uleb_answer c.before.enum_told-1.given.1 in
+    (c.refusal.ensures ∙ ap refusal_of e.0, (e.1, value_refused (λ x. x) _ no))
+
+shape_of-dst : tie.Need-shape_of-dst
+shape_of-dst c = search rules
 
 returns : tie.Need-returns
 returns c =
-    let e = c.before.before.before.before.before.write-uleb128-into.ensures in
-    let no = sym e.0 ∙ ap write_uleb_answer c.before.enum_told.given.1 in
-    (c.refusal.ensures ∙ ap refusal_of e.0, (e.1, value_refused (λ x. x) _ no))
-
-same-length-2 : tie.Need-same-length-2
-same-length-2 c = search rules
-
-returns-2 : tie.Need-returns-2
-returns-2 c =
-    let e = c.before.before.before.before.before.write-uleb128-into.ensures in
-    let yes = sym e.0 ∙ ap write_uleb_answer c.before.got.given.1 in
+    let e = c.before.before.before.before.before.write_uleb128_into-got.ensures in
+    let yes = sym e.0 ∙ ap write_uleb_answer c.before.got-1.given.1 in
     (number_accepted yes, (e.1, value_accepted (λ x. x) _ yes))
 
-pub ouriscado-write-uleb128-into-spec : {M : Type 1} → statement M
-ouriscado-write-uleb128-into-spec =
-    tie.close (tie.spec write-uleb128-into-requires enum-known-got enum_told refusal-requires same_length returns same-length-2 returns-2)
+pub ouriscado_write_uleb128_into_spec : {M : Type 1} → statement M
+ouriscado_write_uleb128_into_spec =
+    tie.close (tie.spec write_uleb128_into-got-requires enum_known-got enum_told-1 refusal-requires shape_of-dst-in_default returns-in_default shape_of-dst returns)

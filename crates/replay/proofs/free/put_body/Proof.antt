@@ -3,71 +3,71 @@ use Rattle.std.proofs.Common.{◌≡◌, ◌-◌, ◌≤◌, length, arith, rule
 use Rattle.replay.proofs.free.put_body.Statement.{statement}
 use Rattle.replay.proofs.free.put_body.Tie as tie
 
-abbrev invariant_loop : tie.invariant_loop
+abbrev invariant_loop : tie.invariant-loop-k
 invariant_loop bytes body₀ k₀ body k = (length body ≡ length body₀) × (k ≤ length bytes)
 
-abbrev decreases_loop : tie.decreases_loop
+abbrev decreases_loop : tie.decreases-loop-k
 decreases_loop bytes body₀ k₀ body k = length bytes - k
 
-loop-holds : tie.Need-loop-init invariant_loop decreases_loop
-loop-holds c = search rules
+loop-k-init : tie.Need-loop-k-init invariant_loop decreases_loop
+loop-k-init c = search rules
 
-same_length : tie.Need-same-length invariant_loop decreases_loop
-same_length c = search rules
+shape_of-body-then-body-lt-FRONT : tie.Need-shape_of-body-then-body-lt-FRONT invariant_loop decreases_loop
+shape_of-body-then-body-lt-FRONT c = search rules
+
+returns-then-body-lt-FRONT : tie.Need-returns-then-body-lt-FRONT invariant_loop decreases_loop
+returns-then-body-lt-FRONT c = search rules
+
+overflow_sub-body : tie.Need-overflow_sub-body invariant_loop decreases_loop
+overflow_sub-body c = search rules
+
+shape_of-body-then-body-k : tie.Need-shape_of-body-then-body-k invariant_loop decreases_loop
+shape_of-body-then-body-k c = search rules
+
+returns-then-body-k : tie.Need-returns-then-body-k invariant_loop decreases_loop
+returns-then-body-k c = search rules
+
+bounds-bytes-k : tie.Need-bounds-bytes-k invariant_loop decreases_loop
+bounds-bytes-k c = search rules
+
+overflow_add-body : tie.Need-overflow_add-body invariant_loop decreases_loop
+overflow_add-body c = search rules
+
+bounds-body-k : tie.Need-bounds-body-k invariant_loop decreases_loop
+bounds-body-k c = search rules
+
+overflow_add-k : tie.Need-overflow_add-k invariant_loop decreases_loop
+overflow_add-k c = search rules
+
+loop-k-smaller : tie.Need-loop-k-smaller invariant_loop decreases_loop
+loop-k-smaller c = omega arith
+
+loop-k-preserved : tie.Need-loop-k-preserved invariant_loop decreases_loop
+loop-k-preserved c = (search rules, omega arith)
+
+shape_of-body : tie.Need-shape_of-body invariant_loop decreases_loop
+shape_of-body c = search rules
 
 returns : tie.Need-returns invariant_loop decreases_loop
 returns c = search rules
 
-sub-if2 : tie.Need-overflow-sub-if2 invariant_loop decreases_loop
-sub-if2 c = search rules
-
-same-length-2 : tie.Need-same-length-2 invariant_loop decreases_loop
-same-length-2 c = search rules
-
-returns-2 : tie.Need-returns-2 invariant_loop decreases_loop
-returns-2 c = search rules
-
-shared-slice-read-body : tie.Need-shared-slice-read-body invariant_loop decreases_loop
-shared-slice-read-body c = search rules
-
-add_body : tie.Need-overflow-add-body invariant_loop decreases_loop
-add_body c = search rules
-
-slice-write-body : tie.Need-slice-write-body invariant_loop decreases_loop
-slice-write-body c = search rules
-
-add-k : tie.Need-overflow-add-k invariant_loop decreases_loop
-add-k c = search rules
-
-loop-less : tie.Need-loop-smaller invariant_loop decreases_loop
-loop-less c = omega arith
-
-loop-again : tie.Need-loop-preserved invariant_loop decreases_loop
-loop-again c = (search rules, omega arith)
-
-same-length-3 : tie.Need-same-length-3 invariant_loop decreases_loop
-same-length-3 c = search rules
-
-returns-3 : tie.Need-returns-3 invariant_loop decreases_loop
-returns-3 c = search rules
-
-pub put-body-spec : {M : Type 1} → statement M
-put-body-spec =
+pub put_body_spec : {M : Type 1} → statement M
+put_body_spec =
     tie.close
     (tie.spec
     invariant_loop
     decreases_loop
-    loop-holds
-    same_length
-    returns
-    sub-if2
-    same-length-2
-    returns-2
-    shared-slice-read-body
-    add_body
-    slice-write-body
-    add-k
-    loop-less
-    loop-again
-    same-length-3
-    returns-3)
+    loop-k-init
+    shape_of-body-then-body-lt-FRONT
+    returns-then-body-lt-FRONT
+    overflow_sub-body
+    shape_of-body-then-body-k
+    returns-then-body-k
+    bounds-bytes-k
+    overflow_add-body
+    bounds-body-k
+    overflow_add-k
+    loop-k-smaller
+    loop-k-preserved
+    shape_of-body
+    returns)

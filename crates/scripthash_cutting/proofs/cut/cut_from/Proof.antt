@@ -14,28 +14,28 @@ use borrow.Author.Rules.{rules}
 use Rattle.scripthash_cutting.proofs.cut.cut_from.Statement.{statement}
 use Rattle.scripthash_cutting.proofs.cut.cut_from.Tie as tie
 
-sub-free : tie.Need-overflow-sub-free
-sub-free c = search rules
+overflow_sub-free : tie.Need-overflow_sub-free
+overflow_sub-free c = search rules
 
-sub-if1 : tie.Need-overflow-sub-if1
-sub-if1 c = search rules
+overflow_sub-fks : tie.Need-overflow_sub-fks
+overflow_sub-fks c = search rules
 
-add-if1 : tie.Need-overflow-add-if1
-add-if1 c = search rules
+overflow_add-fks : tie.Need-overflow_add-fks
+overflow_add-fks c = search rules
 
-count-parts-requires : tie.Need-count-parts-requires
-count-parts-requires c κs = search rules
+count_parts-requires : tie.Need-count_parts-requires
+count_parts-requires c κs = search rules
 
-returns : tie.Need-returns
+returns-then-free-count_parts : tie.Need-returns-then-free-count_parts
 unfolding cut_from after_cut_from refuse_if
-returns c =
+returns-then-free-count_parts c =
     let args = c.before.before.before.before.args in
     let count = args.at + length (cutting_for last_page_room args.room (drop args.from args.fks.now)) in
-    let short : length args.out.now < count = omega (arith, c.before.count-parts.ensures, c.if2.true) in
+    let short : length args.out.now < count = omega (arith, c.before.count_parts.ensures, c.if-free-count_parts.true) in
     rw (lt-ltb (length args.out.now) count short) (refl, refl)
 
 -- the lent list is long enough: it is so for any numbers, or the parts were counted
-long : (c : tie.Joined1) → let args = c.before.before.args in
+long : (c : tie.Joined-free-fks) → let args = c.before.before.args in
     args.at + length (cutting_for last_page_room args.room (drop args.from args.fks.now)) ≤ length args.out.now
 long c =
     let args = c.before.before.args in
@@ -46,26 +46,26 @@ long c =
       w.left,
       length-drop args.from args.fks.now,
       pages_at_most args.room pre.1 pre.2 (drop args.from args.fks.now)
-          (words_drop args.from args.fks.now (λ i. omega (arith, c.before.shared-slice-known.given i))),
+          (words_drop args.from args.fks.now (λ i. omega (arith, c.before.shared_slice_known-1.given i))),
     ))
-    c.if1.branch
+    c.if-free-fks.branch
 
-write-ranges-requires : tie.Need-write-ranges-requires
-write-ranges-requires c κs = let pre = c.before.before.before.requires in (pre.0, pre.1, pre.2, long c.before)
+write_ranges-count-requires : tie.Need-write_ranges-count-requires
+write_ranges-count-requires c κs = let pre = c.before.before.before.requires in (pre.0, pre.1, pre.2, long c.before)
 
-same_length : tie.Need-same-length
-same_length c = search rules
+shape_of-out : tie.Need-shape_of-out
+shape_of-out c = search rules
 
-returns-2 : tie.Need-returns-2
+returns : tie.Need-returns
 unfolding cut_from after_cut_from refuse_if
-returns-2 c =
+returns c =
     let j = c.before.before.before in
     let args = j.before.before.args in
     let count = args.at + length (cutting_for last_page_room args.room (drop args.from args.fks.now)) in
     rw (le-ltb (length args.out.now) count (long j))
-    (ap accepted c.before.write-ranges.ensures.0, c.before.write-ranges.ensures.1)
+    (ap accepted c.before.write_ranges-count.ensures.0, c.before.write_ranges-count.ensures.1)
 
-pub cut-from-spec : {M : Type 1} → statement M
-cut-from-spec =
+pub cut_from_spec : {M : Type 1} → statement M
+cut_from_spec =
     tie.close
-    (tie.spec sub-free sub-if1 add-if1 count-parts-requires returns write-ranges-requires same_length returns-2)
+    (tie.spec overflow_sub-free overflow_sub-fks overflow_add-fks count_parts-requires returns-then-free-count_parts write_ranges-count-requires shape_of-out returns)

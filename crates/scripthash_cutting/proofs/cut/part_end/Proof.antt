@@ -12,31 +12,31 @@ use borrow.Author.Rules.{rules}
 use Rattle.scripthash_cutting.proofs.cut.part_end.Statement.{statement}
 use Rattle.scripthash_cutting.proofs.cut.part_end.Tie as tie
 
-mul-uleb128-len : tie.Need-overflow-mul-uleb128-len
-mul-uleb128-len c = search rules
+offset_bounds-fks-start : tie.Need-offset_bounds-fks-start
+offset_bounds-fks-start c = search rules
 
-shared-slice-read-uleb128-len : tie.Need-shared-slice-read-uleb128-len
-shared-slice-read-uleb128-len c = search rules
+bounds-fks-start : tie.Need-bounds-fks-start
+bounds-fks-start c = search rules
 
-uleb128-len-requires : tie.Need-uleb128-len-requires
-uleb128-len-requires c κs = search rules
+uleb128_len-first-requires : tie.Need-uleb128_len-first-requires
+uleb128_len-first-requires c κs = search rules
 
-add-extend-part : tie.Need-overflow-add-extend-part
-add-extend-part c = search rules
+overflow_add-start : tie.Need-overflow_add-start
+overflow_add-start c = search rules
 
-extend-part-requires : tie.Need-extend-part-requires
-extend-part-requires c κs =
+extend_part-last-requires : tie.Need-extend_part-last-requires
+extend_part-last-requires c κs =
     let fks = c.before.before.before.args.fks.now in
     let start = c.before.before.before.args.start in
     let short : uleb_len (get_or fks start 0) ≤ 10 =
-    len_at_most (get_or fks start 0) (omega (arith, c.before.shared-slice-known2.given start)) in
-    (omega arith, omega arith, omega (arith, c.uleb128-len.ensures), omega arith)
+    len_at_most (get_or fks start 0) (omega (arith, c.before.shared_slice_known-2-1.given start)) in
+    (omega arith, omega arith, omega (arith, c.uleb128_len-first.ensures), omega arith)
 
-extend-part-requires-2 : tie.Need-extend-part-requires-2
-extend-part-requires-2 c κs = search rules
+extend_part-whole-requires : tie.Need-extend_part-whole-requires
+extend_part-whole-requires c κs = search rules
 
 -- the two steps of the part
-module _ (c : tie.After-struct-known) where
+module _ (c : tie.After-struct_known-1) where
   abbrev fks : List ℕ
   fks = c.before.before.before.before.before.before.args.fks.now
 
@@ -46,29 +46,29 @@ module _ (c : tie.After-struct-known) where
   abbrev room : ℕ
   room = c.before.before.before.before.before.before.args.room
 
-  near : Reached fks (start + 1) (uleb_len (get_or fks start 0)) last_page_room c.before.before.extend-part.result.end
-      c.before.before.extend-part.result.used
-  near = rw c.before.before.before.uleb128-len.ensures at c.before.before.extend-part.ensures
+  near : Reached fks (start + 1) (uleb_len (get_or fks start 0)) last_page_room c.before.before.extend_part-last.result.end
+      c.before.before.extend_part-last.result.used
+  near = rw c.before.before.before.uleb128_len-first.ensures at c.before.before.extend_part-last.ensures
+
+returns-then-whole-fks : tie.Need-returns-then-whole-fks
+returns-then-whole-fks c = next_last (fks c.before) (start c.before) last_page_room (room c.before) (search rules)
+    c.before.before.before.before.before.before.before.requires.1 _ _ _ _ (near c.before)
+    c.before.before.extend_part-whole.ensures c.if-whole-fks.true
 
 returns : tie.Need-returns
-returns c = next_last (fks c.before) (start c.before) last_page_room (room c.before) (search rules)
+returns c = next_other (fks c.before) (start c.before) last_page_room (room c.before) (search rules)
     c.before.before.before.before.before.before.before.requires.1 _ _ _ _ (near c.before)
-    c.before.before.extend-part2.ensures c.if1.true
+    c.before.before.extend_part-whole.ensures c.if-whole-fks.false
 
-returns-2 : tie.Need-returns-2
-returns-2 c = next_other (fks c.before) (start c.before) last_page_room (room c.before) (search rules)
-    c.before.before.before.before.before.before.before.requires.1 _ _ _ _ (near c.before)
-    c.before.before.extend-part2.ensures c.if1.false
-
-pub part-end-spec : {M : Type 1} → statement M
-part-end-spec =
+pub part_end_spec : {M : Type 1} → statement M
+part_end_spec =
     tie.close
     (tie.spec
-    mul-uleb128-len
-    shared-slice-read-uleb128-len
-    uleb128-len-requires
-    add-extend-part
-    extend-part-requires
-    extend-part-requires-2
-    returns
-    returns-2)
+    offset_bounds-fks-start
+    bounds-fks-start
+    uleb128_len-first-requires
+    overflow_add-start
+    extend_part-last-requires
+    extend_part-whole-requires
+    returns-then-whole-fks
+    returns)

@@ -6,15 +6,15 @@ use Rattle.scripthash_cutting.specs.Steps.{cut_from, after_cut_from}
 use Rattle.scripthash_cutting.proofs.cut.sh_page_chunk_ranges.Statement.{statement}
 use Rattle.scripthash_cutting.proofs.cut.sh_page_chunk_ranges.Tie as tie
 
-cut-from-requires : tie.Need-cut-from-requires
-cut-from-requires c κs = search rules
+cut_from-requires : tie.Need-cut_from-requires
+cut_from-requires c κs = search rules
 
-same_length : tie.Need-same-length
-same_length c = search rules
+shape_of-out : tie.Need-shape_of-out
+shape_of-out c = search rules
 
 returns : tie.Need-returns
 unfolding cut_from after_cut_from chunk_ranges after_chunk_ranges
-returns c = simp zero-add at c.before.cut-from.ensures
+returns c = simp zero-add at c.before.cut_from.ensures
 
-pub sh-page-chunk-ranges-spec : {M : Type 1} → statement M
-sh-page-chunk-ranges-spec = tie.close (tie.spec cut-from-requires same_length returns)
+pub sh_page_chunk_ranges_spec : {M : Type 1} → statement M
+sh_page_chunk_ranges_spec = tie.close (tie.spec cut_from-requires shape_of-out returns)

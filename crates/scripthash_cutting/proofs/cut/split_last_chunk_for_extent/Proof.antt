@@ -15,11 +15,11 @@ use Rattle.scripthash_cutting.proofs.LawsSplit.{split_kept, split_empty, split_o
 use Rattle.scripthash_cutting.proofs.cut.split_last_chunk_for_extent.Statement.{statement}
 use Rattle.scripthash_cutting.proofs.cut.split_last_chunk_for_extent.Tie as tie
 
-returns : tie.Need-returns
+returns-then-chunks-count : tie.Need-returns-then-chunks-count
 unfolding no_room_to_split split_last after_split_last refuse_if
-returns c =
+returns-then-chunks-count c =
     let args = c.before.before.args in
-    rw (lt-ltb (length args.chunks.now) args.count c.if1.true) (refl, refl)
+    rw (lt-ltb (length args.chunks.now) args.count c.if-chunks-count.true) (refl, refl)
 
 -- the answer and the lent list where the ranges stay
 kept : (ns : List ℕ) (chunks : List (List ℕ)) (count : ℕ) → count ≤ length chunks → split_ranges ns (take count chunks) ≡ take count chunks
@@ -27,91 +27,91 @@ kept : (ns : List ℕ) (chunks : List (List ℕ)) (count : ℕ) → count ≤ le
 kept ns chunks count within same = let k = split_kept ns chunks count within same in (sym k.0, sym k.1)
 
 -- there is a last range
-some : (c : tie.Else2) → 0 < c.before.before.before.args.count
-some c = omega (arith, c.if2.false)
+some : (c : tie.Else-count-eq0) → 0 < c.before.before.before.args.count
+some c = omega (arith, c.if-count-eq0.false)
 
-returns-2 : tie.Need-returns-2
+returns-then-count-eq0 : tie.Need-returns-then-count-eq0
 unfolding replace_last
-returns-2 c =
+returns-then-count-eq0 c =
     let args = c.before.before.before.args in
-    rw c.if2.true (kept args.fks.now args.chunks.now 0 (omega arith) refl)
+    rw c.if-count-eq0.true (kept args.fks.now args.chunks.now 0 (omega arith) refl)
 
-sub-last : tie.Need-overflow-sub-last
-sub-last c = search rules
+overflow_sub-last : tie.Need-overflow_sub-last
+overflow_sub-last c = search rules
 
-mul-last : tie.Need-overflow-mul-last
-mul-last c = search rules
+offset_bounds-chunks-count : tie.Need-offset_bounds-chunks-count
+offset_bounds-chunks-count c = search rules
 
-slice-copy-out-last : tie.Need-slice-copy-out-last
-slice-copy-out-last c = search rules
+slice_copy_out-last : tie.Need-slice_copy_out-last
+slice_copy_out-last c = search rules
 
-array-read-start : tie.Need-array-read-start
-array-read-start c = search rules
+bounds-last-0 : tie.Need-bounds-last-0
+bounds-last-0 c = search rules
 
-array-read-end : tie.Need-array-read-end
-array-read-end c = search rules
+bounds-last-1 : tie.Need-bounds-last-1
+bounds-last-1 c = search rules
 
-returns-3 : tie.Need-returns-3
-returns-3 c =
+returns-then-end-start : tie.Need-returns-then-end-start
+returns-then-end-start c =
     let args = c.before.before.before.before.before.args in
     kept args.fks.now args.chunks.now args.count (search rules)
-    (split_empty args.fks.now args.chunks.now args.count (some c.before.before) (search rules) c.if3.true)
+    (split_empty args.fks.now args.chunks.now args.count (some c.before.before) (search rules) c.if-end-start.true)
 
-returns-4 : tie.Need-returns-4
-returns-4 c =
+returns-then-fks-end : tie.Need-returns-then-fks-end
+returns-then-fks-end c =
     let args = c.before.before.before.before.before.before.args in
     kept args.fks.now args.chunks.now args.count (search rules)
     (split_outside args.fks.now args.chunks.now args.count (some c.before.before.before) (search rules)
-    c.before.if3.false c.if4.true)
+    c.before.if-end-start.false c.if-fks-end.true)
 
-slice-aggregate-upto : tie.Need-slice-aggregate-upto
-slice-aggregate-upto c =
+slice_bounds-upto-end : tie.Need-slice_bounds-upto-end
+slice_bounds-upto-end c =
     let args = c.before.before.before.before.before.before.before.args in
-    sym (length-take-le (get_or (get_or args.chunks.now (args.count - 1) []) 1 0) args.fks.now c.before.if4.false)
+    sym (length-take-le (get_or (get_or args.chunks.now (args.count - 1) []) 1 0) args.fks.now c.before.if-fks-end.false)
 
-sub-cut-from : tie.Need-overflow-sub-cut-from
-sub-cut-from c = search rules
+overflow_sub-count : tie.Need-overflow_sub-count
+overflow_sub-count c = search rules
 
-cut-from-requires : tie.Need-cut-from-requires
-cut-from-requires c κs =
+cut_from-requires : tie.Need-cut_from-requires
+cut_from-requires c κs =
     let args = c.before.before.before.before.before.before.before.before.args in
     let last = get_or args.chunks.now (args.count - 1) [] in (
-      omega (arith, length-take-le (get_or last 1 0) args.fks.now c.before.before.if4.false, c.before.before.before.if3.false),
+      omega (arith, length-take-le (get_or last 1 0) args.fks.now c.before.before.if-fks-end.false, c.before.before.before.if-end-start.false),
       omega arith,
       omega arith,
       search rules,
     )
 
-same_length : tie.Need-same-length
-same_length c = search rules
+shape_of-chunks : tie.Need-shape_of-chunks
+shape_of-chunks c = search rules
 
-returns-5 : tie.Need-returns-5
-returns-5 c =
+returns : tie.Need-returns
+returns c =
     let args = c.before.before.before.before.before.before.before.before.before.before.args in
     let last = get_or args.chunks.now (args.count - 1) [] in
     let words = words_drop (get_or last 0 0) (take (get_or last 1 0) args.fks.now)
     (words_take (get_or last 1 0) args.fks.now
-    (λ i. omega (arith, c.before.before.before.before.before.before.before.before.before.shared-slice-known.given i))) in
+    (λ i. omega (arith, c.before.before.before.before.before.before.before.before.before.shared_slice_known-1.given i))) in
     let cut = split_cut args.fks.now args.chunks.now args.count
-    (some c.before.before.before.before.before.before.before) (search rules) c.before.before.before.before.before.if3.false
-    c.before.before.before.before.if4.false words in
-    (c.before.cut-from.ensures.0 ∙ sym cut.0, c.before.cut-from.ensures.1 ∙ sym cut.1)
+    (some c.before.before.before.before.before.before.before) (search rules) c.before.before.before.before.before.if-end-start.false
+    c.before.before.before.before.if-fks-end.false words in
+    (c.before.cut_from.ensures.0 ∙ sym cut.0, c.before.cut_from.ensures.1 ∙ sym cut.1)
 
-pub split-last-chunk-for-extent-spec : {M : Type 1} → statement M
-split-last-chunk-for-extent-spec =
+pub split_last_chunk_for_extent_spec : {M : Type 1} → statement M
+split_last_chunk_for_extent_spec =
     tie.close
     (tie.spec
-    returns
-    returns-2
-    sub-last
-    mul-last
-    slice-copy-out-last
-    array-read-start
-    array-read-end
-    returns-3
-    returns-4
-    slice-aggregate-upto
-    sub-cut-from
-    cut-from-requires
-    same_length
-    returns-5)
+    returns-then-chunks-count
+    returns-then-count-eq0
+    overflow_sub-last
+    offset_bounds-chunks-count
+    slice_copy_out-last
+    bounds-last-0
+    bounds-last-1
+    returns-then-end-start
+    returns-then-fks-end
+    slice_bounds-upto-end
+    overflow_sub-count
+    cut_from-requires
+    shape_of-chunks
+    returns)

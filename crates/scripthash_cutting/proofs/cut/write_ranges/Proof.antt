@@ -12,97 +12,97 @@ use Rattle.scripthash_cutting.proofs.LawsPages.{PartFrom, part_from, parts_behin
 use Rattle.scripthash_cutting.proofs.cut.write_ranges.Statement.{statement}
 use Rattle.scripthash_cutting.proofs.cut.write_ranges.Tie as tie
 
-abbrev invariant_loop : tie.invariant_loop
+abbrev invariant_loop : tie.invariant-loop-start
 invariant_loop fks from room out₀ at start₀ count₀ out start count =
     let left = cutting_for last_page_room room (drop start fks) in
     let parts = cutting_for last_page_room room (drop from fks) in
     (start ≤ length fks) × (count + length left ≡ at + length parts) × (length out ≡ length out₀)
     × (overwrite out count (ranges_from start left) ≡ overwrite out₀ at (ranges_from from parts))
 
-abbrev decreases_loop : tie.decreases_loop
+abbrev decreases_loop : tie.decreases-loop-start
 decreases_loop fks from room out₀ at start₀ count₀ out start count = length fks - start
 
-loop-holds : tie.Need-loop-init invariant_loop decreases_loop
-loop-holds c = (search rules, refl, refl, refl)
+loop-start-init : tie.Need-loop-start-init invariant_loop decreases_loop
+loop-start-init c = (search rules, refl, refl, refl)
 
-part-end-requires : tie.Need-part-end-requires invariant_loop decreases_loop
-part-end-requires c κs = search rules
+part_end-end-requires : tie.Need-part_end-end-requires invariant_loop decreases_loop
+part_end-end-requires c κs = search rules
 
 -- the part that was found
-module _ (c : tie.After-part-end invariant_loop decreases_loop) where
+module _ (c : tie.After-part_end-end invariant_loop decreases_loop) where
   abbrev fks : List ℕ
   fks = c.before.before.before.before.args.fks.now
 
   abbrev start : ℕ
-  start = c.before.before.loop.start
+  start = c.before.before.loop-start.start
 
-  found : PartFrom c.before.before.before.before.args.room fks start c.part-end.result
+  found : PartFrom c.before.before.before.before.args.room fks start c.part_end-end.result
   found =
       let pre = c.before.before.before.before.requires in
-      part_from c.before.before.before.before.args.room pre.1 pre.2 fks start c.part-end.result (search rules)
-      (λ i. omega (arith, c.before.before.before.shared-slice-known.given i)) c.part-end.ensures
+      part_from c.before.before.before.before.args.room pre.1 pre.2 fks start c.part_end-end.result (search rules)
+      (λ i. omega (arith, c.before.before.before.shared_slice_known-1.given i)) c.part_end-end.ensures
 
   -- the lent list has room for its range
-  room : c.before.before.loop.count < length c.before.before.loop.out
-  room = let inv = c.before.before.loop.invariant in omega (arith, found.count, inv.1, inv.2, c.before.before.before.before.requires.3)
+  room : c.before.before.loop-start.count < length c.before.before.loop-start.out
+  room = let inv = c.before.before.loop-start.invariant in omega (arith, found.count, inv.1, inv.2, c.before.before.before.before.requires.3)
 
-mul-range : tie.Need-overflow-mul-range invariant_loop decreases_loop
-mul-range c = omega (arith, room c)
+offset_bounds-out-count : tie.Need-offset_bounds-out-count invariant_loop decreases_loop
+offset_bounds-out-count c = omega (arith, room c)
 
-slice-set-from-range : tie.Need-slice-set-from-range invariant_loop decreases_loop
-slice-set-from-range c = room c
+bounds-out-count : tie.Need-bounds-out-count invariant_loop decreases_loop
+bounds-out-count c = room c
 
-add-count : tie.Need-overflow-add-count invariant_loop decreases_loop
-add-count c = omega (arith, room c)
+overflow_add-count : tie.Need-overflow_add-count invariant_loop decreases_loop
+overflow_add-count c = omega (arith, room c)
 
-loop-less : tie.Need-loop-smaller invariant_loop decreases_loop
-loop-less c = omega (arith, (found c).later, (found c).within)
+loop-start-smaller : tie.Need-loop-start-smaller invariant_loop decreases_loop
+loop-start-smaller c = omega (arith, (found c).later, (found c).within)
 
-loop-again : tie.Need-loop-preserved invariant_loop decreases_loop
-loop-again c =
-    let inv = c.before.before.loop.invariant in
-    let out = c.before.before.loop.out in
+loop-start-preserved : tie.Need-loop-start-preserved invariant_loop decreases_loop
+loop-start-preserved c =
+    let inv = c.before.before.loop-start.invariant in
+    let out = c.before.before.loop-start.out in
     let large = c.before.before.before.before.args.room in
-    let e = c.part-end.result in (
+    let e = c.part_end-end.result in (
       (found c).within,
       omega (arith, (found c).count, inv.1),
       simp length-set inv.2,
-      sym (overwrite_step out c.before.before.loop.count (range_of (start c) e)
+      sym (overwrite_step out c.before.before.loop-start.count (range_of (start c) e)
           (ranges_from e (cutting_for last_page_room large (drop e (fks c)))) (room c))
           ∙ (rw (found c).ranges-2 at inv.3),
     )
 
-same_length : tie.Need-same-length invariant_loop decreases_loop
-same_length c = c.before.loop.invariant.2
+shape_of-out : tie.Need-shape_of-out invariant_loop decreases_loop
+shape_of-out c = c.before.loop-start.invariant.2
 
 returns : tie.Need-returns invariant_loop decreases_loop
 unfolding ranges_from
 returns c =
     let args = c.before.before.before.args in
     let pre = c.before.before.before.requires in
-    let at = c.before.loop.start in
-    let inv = c.before.loop.invariant in
+    let at = c.before.loop-start.start in
+    let inv = c.before.loop-start.invariant in
     let parts = cutting_for last_page_room args.room (drop args.from args.fks.now) in
     let over : cutting_for last_page_room args.room (drop at args.fks.now) ≡ [] =
-    parts_behind args.room pre.1 pre.2 args.fks.now at c.loop-test.false in
-    let count : c.before.loop.count + 0 ≡ args.at + length parts = rw over at inv.1 in
-    let ranges : overwrite c.before.loop.out c.before.loop.count []
+    parts_behind args.room pre.1 pre.2 args.fks.now at c.loop-start-test.false in
+    let count : c.before.loop-start.count + 0 ≡ args.at + length parts = rw over at inv.1 in
+    let ranges : overwrite c.before.loop-start.out c.before.loop-start.count []
     ≡ overwrite args.out.now args.at (ranges_from args.from parts) =
     rw over at inv.3 in
-    (omega arith, sym (overwrite_nil c.before.loop.out c.before.loop.count) ∙ ranges)
+    (omega arith, sym (overwrite_nil c.before.loop-start.out c.before.loop-start.count) ∙ ranges)
 
-pub write-ranges-spec : {M : Type 1} → statement M
-write-ranges-spec =
+pub write_ranges_spec : {M : Type 1} → statement M
+write_ranges_spec =
     tie.close
     (tie.spec
     invariant_loop
     decreases_loop
-    loop-holds
-    part-end-requires
-    mul-range
-    slice-set-from-range
-    add-count
-    loop-less
-    loop-again
-    same_length
+    loop-start-init
+    part_end-end-requires
+    offset_bounds-out-count
+    bounds-out-count
+    overflow_add-count
+    loop-start-smaller
+    loop-start-preserved
+    shape_of-out
     returns)

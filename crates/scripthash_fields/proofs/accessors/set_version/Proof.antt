@@ -6,14 +6,14 @@ use Rattle.scripthash_fields.proofs.LawsPage.{set_byte}
 use Rattle.scripthash_fields.proofs.accessors.set_version.Statement.{statement}
 use Rattle.scripthash_fields.proofs.accessors.set_version.Tie as tie
 
-slice-write-page : tie.Need-slice-write-page
-slice-write-page c = search rules
+bounds-page-0 : tie.Need-bounds-page-0
+bounds-page-0 c = search rules
 
-same_length : tie.Need-same-length
-same_length c = search rules
+shape_of-page : tie.Need-shape_of-page
+shape_of-page c = search rules
 
 returns : tie.Need-returns
 returns c = sym (set_byte c.args.page.now 0 c.args.version (omega arith) (omega arith))
 
-pub set-version-spec : {M : Type 1} → statement M
-set-version-spec = tie.close (tie.spec slice-write-page same_length returns)
+pub set_version_spec : {M : Type 1} → statement M
+set_version_spec = tie.close (tie.spec bounds-page-0 shape_of-page returns)

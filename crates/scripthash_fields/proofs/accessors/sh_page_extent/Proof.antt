@@ -15,12 +15,12 @@ use Rattle.scripthash_fields.proofs.accessors.sh_page_extent.Statement.{statemen
 use Rattle.scripthash_fields.proofs.accessors.sh_page_extent.Tie as tie
 
 -- what stands in a page of version 2
-module _ (c : tie.After-get-u32) where
+module _ (c : tie.After-get_u32-pages) where
   abbrev base : ℕ
-  base = c.before.get-u64.result
+  base = c.before.get_u64-start.result
 
   abbrev count : ℕ
-  count = c.get-u32.result
+  count = c.get_u32-pages.result
 
   abbrev told : Answer (Option Extent)
   told = accepted (some (record { base = base; count = count }))
@@ -32,66 +32,66 @@ module _ (c : tie.After-get-u32) where
   unfolding field
   stored =
       let v = c.before.before.before in
-      extent_is page v.before.if1.false v.version_of.result base count v.version_of.ensures c.before.before.if2.false
-      c.before.get-u64.ensures c.get-u32.ensures
+      extent_is page v.before.if-page-ne-SH_PAGE_SIZE.false v.version_of.result base count v.version_of.ensures c.before.before.if-version_of-ne-SH_PAGE_EXTENT_VER.false
+      c.before.get_u64-start.ensures c.get_u32-pages.ensures
 
-returns : tie.Need-returns
+returns-then-page-ne-SH_PAGE_SIZE : tie.Need-returns-then-page-ne-SH_PAGE_SIZE
 unfolding extent_of
-returns c = sym (page_no_lem c.before.before.args.page.now _ c.if1.true)
+returns-then-page-ne-SH_PAGE_SIZE c = sym (page_no_lem c.before.before.args.page.now _ c.if-page-ne-SH_PAGE_SIZE.true)
 
-version-of-requires : tie.Need-version-of-requires
-version-of-requires c κs = search rules
+version_of-requires : tie.Need-version_of-requires
+version_of-requires c κs = search rules
 
-returns-2 : tie.Need-returns-2
-returns-2 c =
+returns-then-version_of-ne-SH_PAGE_EXTENT_VER : tie.Need-returns-then-version_of-ne-SH_PAGE_EXTENT_VER
+returns-then-version_of-ne-SH_PAGE_EXTENT_VER c =
     let d = c.before in
-    extent_none d.before.before.before.args.page.now d.before.if1.false d.version_of.result d.version_of.ensures
-    c.if2.true
+    extent_none d.before.before.before.args.page.now d.before.if-page-ne-SH_PAGE_SIZE.false d.version_of.result d.version_of.ensures
+    c.if-version_of-ne-SH_PAGE_EXTENT_VER.true
 
-get-u64-requires : tie.Need-get-u64-requires
-get-u64-requires c κs = search rules
+get_u64-start-requires : tie.Need-get_u64-start-requires
+get_u64-start-requires c κs = search rules
 
-get-u32-requires : tie.Need-get-u32-requires
-get-u32-requires c κs = search rules
+get_u32-pages-requires : tie.Need-get_u32-pages-requires
+get_u32-pages-requires c κs = search rules
 
-check-extent-requires : tie.Need-check-extent-requires
-check-extent-requires c κs = search rules
+check_extent-named-requires : tie.Need-check_extent-named-requires
+check_extent-named-requires c κs = search rules
 
-enum_told : tie.Need-enum-told
-enum_told c = search rules
+enum_told-1 : tie.Need-enum_told-1
+enum_told-1 c = search rules
 
-enum-told-2 : tie.Need-enum-told-2
-enum-told-2 c = search rules
+enum_told-in_default : tie.Need-enum_told-in_default
+enum_told-in_default c = search rules
 
 refusal-requires : tie.Need-refusal-requires
 refusal-requires c κs = search rules
 
-returns-3 : tie.Need-returns-3
-returns-3 c =
-    let is = c.before.enum-told2.given.1 in
+returns-in_default : tie.Need-returns-in_default
+returns-in_default c =
+    let is = c.before.enum_told-in_default-1.given.1 in
     let e = c.before.before.before in
     let d = e.before in
     ap refused (c.refusal.ensures ∙ ap (λ (g : PageDone). refusal_of (done_answer g)) is)
-    ∙ sym (extent_no (base d) (count d) (told d) (sym e.check-extent.ensures ∙ ap done_answer is)) ∙ stored d
+    ∙ sym (extent_no (base d) (count d) (told d) (sym e.check_extent-named.ensures ∙ ap done_answer is)) ∙ stored d
 
-returns-4 : tie.Need-returns-4
-returns-4 c =
+returns : tie.Need-returns
+returns c =
     let e = c.before.before in
     let d = e.before in
-    sym (extent_yes (base d) (count d) (told d) (sym e.check-extent.ensures ∙ ap done_answer c.enum_told.given.1)) ∙ stored d
+    sym (extent_yes (base d) (count d) (told d) (sym e.check_extent-named.ensures ∙ ap done_answer c.enum_told-1.given.1)) ∙ stored d
 
-pub sh-page-extent-spec : {M : Type 1} → statement M
-sh-page-extent-spec =
+pub sh_page_extent_spec : {M : Type 1} → statement M
+sh_page_extent_spec =
     tie.close
     (tie.spec
-    returns
-    version-of-requires
-    returns-2
-    get-u64-requires
-    get-u32-requires
-    check-extent-requires
-    enum_told
-    enum-told-2
+    returns-then-page-ne-SH_PAGE_SIZE
+    version_of-requires
+    returns-then-version_of-ne-SH_PAGE_EXTENT_VER
+    get_u64-start-requires
+    get_u32-pages-requires
+    check_extent-named-requires
+    enum_told-1
+    enum_told-in_default
     refusal-requires
-    returns-3
-    returns-4)
+    returns-in_default
+    returns)

@@ -8,29 +8,29 @@ use Rattle.scripthash_fields.proofs.LawsFields.{creates_none, creates_is}
 use Rattle.scripthash_fields.proofs.accessors.sh_page_extent_creates.Statement.{statement}
 use Rattle.scripthash_fields.proofs.accessors.sh_page_extent_creates.Tie as tie
 
-returns : tie.Need-returns
+returns-then-page-ne-SH_PAGE_SIZE : tie.Need-returns-then-page-ne-SH_PAGE_SIZE
 unfolding creates_of
-returns c = sym (page_no_lem c.before.before.args.page.now _ c.if1.true)
+returns-then-page-ne-SH_PAGE_SIZE c = sym (page_no_lem c.before.before.args.page.now _ c.if-page-ne-SH_PAGE_SIZE.true)
 
-version-of-requires : tie.Need-version-of-requires
-version-of-requires c κs = search rules
+version_of-requires : tie.Need-version_of-requires
+version_of-requires c κs = search rules
 
-returns-2 : tie.Need-returns-2
-returns-2 c =
+returns-then-version_of-ne-SH_PAGE_EXTENT_VER : tie.Need-returns-then-version_of-ne-SH_PAGE_EXTENT_VER
+returns-then-version_of-ne-SH_PAGE_EXTENT_VER c =
     let d = c.before in
-    creates_none d.before.before.before.args.page.now d.before.if1.false d.version_of.result d.version_of.ensures
-    c.if2.true
+    creates_none d.before.before.before.args.page.now d.before.if-page-ne-SH_PAGE_SIZE.false d.version_of.result d.version_of.ensures
+    c.if-version_of-ne-SH_PAGE_EXTENT_VER.true
 
-get-u32-requires : tie.Need-get-u32-requires
-get-u32-requires c κs = search rules
+get_u32-requires : tie.Need-get_u32-requires
+get_u32-requires c κs = search rules
 
-returns-3 : tie.Need-returns-3
+returns : tie.Need-returns
 unfolding field
-returns-3 c =
+returns c =
     let d = c.before.before in
-    creates_is d.before.before.before.args.page.now d.before.if1.false d.version_of.result c.get-u32.result
+    creates_is d.before.before.before.args.page.now d.before.if-page-ne-SH_PAGE_SIZE.false d.version_of.result c.get_u32.result
     d.version_of.ensures
-    c.before.if2.false c.get-u32.ensures
+    c.before.if-version_of-ne-SH_PAGE_EXTENT_VER.false c.get_u32.ensures
 
-pub sh-page-extent-creates-spec : {M : Type 1} → statement M
-sh-page-extent-creates-spec = tie.close (tie.spec returns version-of-requires returns-2 get-u32-requires returns-3)
+pub sh_page_extent_creates_spec : {M : Type 1} → statement M
+sh_page_extent_creates_spec = tie.close (tie.spec returns-then-page-ne-SH_PAGE_SIZE version_of-requires returns-then-version_of-ne-SH_PAGE_EXTENT_VER get_u32-requires returns)

@@ -7,15 +7,15 @@ use Rattle.scripthash_fields.proofs.LawsFields.{is_last_lem}
 use Rattle.scripthash_fields.proofs.accessors.sh_page_is_last.Statement.{statement}
 use Rattle.scripthash_fields.proofs.accessors.sh_page_is_last.Tie as tie
 
-returns : tie.Need-returns
+returns-then-page-ne-SH_PAGE_SIZE : tie.Need-returns-then-page-ne-SH_PAGE_SIZE
 unfolding is_last
-returns c = sym (page_no_lem c.before.before.args.page.now _ c.if1.true)
+returns-then-page-ne-SH_PAGE_SIZE c = sym (page_no_lem c.before.before.args.page.now _ c.if-page-ne-SH_PAGE_SIZE.true)
 
-link-of-requires : tie.Need-link-of-requires
-link-of-requires c κs = search rules
+link_of-requires : tie.Need-link_of-requires
+link_of-requires c κs = search rules
 
-returns-2 : tie.Need-returns-2
-returns-2 c = is_last_lem c.before.before.before.args.page.now c.before.if1.false c.link-of.result c.link-of.ensures.0
+returns : tie.Need-returns
+returns c = is_last_lem c.before.before.before.args.page.now c.before.if-page-ne-SH_PAGE_SIZE.false c.link_of.result c.link_of.ensures.0
 
-pub sh-page-is-last-spec : {M : Type 1} → statement M
-sh-page-is-last-spec = tie.close (tie.spec returns link-of-requires returns-2)
+pub sh_page_is_last_spec : {M : Type 1} → statement M
+sh_page_is_last_spec = tie.close (tie.spec returns-then-page-ne-SH_PAGE_SIZE link_of-requires returns)

@@ -9,39 +9,39 @@ use Rattle.scripthash_fields.proofs.LawsFields.{stream_off_within, count_above, 
 use Rattle.scripthash_fields.proofs.accessors.sh_page_n_fks.Statement.{statement}
 use Rattle.scripthash_fields.proofs.accessors.sh_page_n_fks.Tie as tie
 
-returns : tie.Need-returns
+returns-then-page-ne-SH_PAGE_SIZE : tie.Need-returns-then-page-ne-SH_PAGE_SIZE
 unfolding n_fks
-returns c = sym (page_no_lem c.before.before.args.page.now _ c.if1.true)
+returns-then-page-ne-SH_PAGE_SIZE c = sym (page_no_lem c.before.before.args.page.now _ c.if-page-ne-SH_PAGE_SIZE.true)
 
-get-u16-requires : tie.Need-get-u16-requires
-get-u16-requires c κs = search rules
+get_u16-n-requires : tie.Need-get_u16-n-requires
+get_u16-n-requires c κs = search rules
 
-cast-n : tie.Need-overflow-cast-n
-cast-n c = search rules
+overflow_cast-n : tie.Need-overflow_cast-n
+overflow_cast-n c = search rules
 
-stream-off-requires : tie.Need-stream-off-requires
-stream-off-requires c κs = search rules
+stream_off-requires : tie.Need-stream_off-requires
+stream_off-requires c κs = search rules
 
-sub-if2 : tie.Need-overflow-sub-if2
-sub-if2 c = omega (arith, c.stream-off.ensures, stream_off_within c.before.before.before.before.args.page.now)
+overflow_sub-stream_off : tie.Need-overflow_sub-stream_off
+overflow_sub-stream_off c = omega (arith, c.stream_off.ensures, stream_off_within c.before.before.before.before.args.page.now)
 
-returns-2 : tie.Need-returns-2
+returns-then-stream_off-n : tie.Need-returns-then-stream_off-n
 unfolding field
-returns-2 c =
+returns-then-stream_off-n c =
     let d = c.before in
     let g = d.before in
-    count_above g.before.before.before.args.page.now g.before.if1.false d.stream-off.result g.get-u16.result
-    d.stream-off.ensures g.get-u16.ensures
-    c.if2.true
+    count_above g.before.before.before.args.page.now g.before.if-page-ne-SH_PAGE_SIZE.false d.stream_off.result g.get_u16-n.result
+    d.stream_off.ensures g.get_u16-n.ensures
+    c.if-stream_off-n.true
 
-returns-3 : tie.Need-returns-3
+returns : tie.Need-returns
 unfolding field
-returns-3 c =
+returns c =
     let d = c.before in
     let g = d.before in
-    count_is g.before.before.before.args.page.now g.before.if1.false d.stream-off.result g.get-u16.result
-    d.stream-off.ensures g.get-u16.ensures
-    c.if2.false
+    count_is g.before.before.before.args.page.now g.before.if-page-ne-SH_PAGE_SIZE.false d.stream_off.result g.get_u16-n.result
+    d.stream_off.ensures g.get_u16-n.ensures
+    c.if-stream_off-n.false
 
-pub sh-page-n-fks-spec : {M : Type 1} → statement M
-sh-page-n-fks-spec = tie.close (tie.spec returns get-u16-requires cast-n stream-off-requires sub-if2 returns-2 returns-3)
+pub sh_page_n_fks_spec : {M : Type 1} → statement M
+sh_page_n_fks_spec = tie.close (tie.spec returns-then-page-ne-SH_PAGE_SIZE get_u16-n-requires overflow_cast-n stream_off-requires overflow_sub-stream_off returns-then-stream_off-n returns)

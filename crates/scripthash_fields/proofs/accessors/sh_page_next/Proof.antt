@@ -7,15 +7,15 @@ use Rattle.scripthash_fields.proofs.LawsFields.{next_is}
 use Rattle.scripthash_fields.proofs.accessors.sh_page_next.Statement.{statement}
 use Rattle.scripthash_fields.proofs.accessors.sh_page_next.Tie as tie
 
-returns : tie.Need-returns
+returns-then-page-ne-SH_PAGE_SIZE : tie.Need-returns-then-page-ne-SH_PAGE_SIZE
 unfolding next_off_of
-returns c = sym (page_no_lem c.before.before.args.page.now _ c.if1.true)
+returns-then-page-ne-SH_PAGE_SIZE c = sym (page_no_lem c.before.before.args.page.now _ c.if-page-ne-SH_PAGE_SIZE.true)
 
-next-off-requires : tie.Need-next-off-requires
-next-off-requires c κs = search rules
+next_off-requires : tie.Need-next_off-requires
+next_off-requires c κs = search rules
 
-returns-2 : tie.Need-returns-2
-returns-2 c = next_is c.before.before.before.args.page.now c.before.if1.false _ (sym c.next-off.ensures)
+returns : tie.Need-returns
+returns c = next_is c.before.before.before.args.page.now c.before.if-page-ne-SH_PAGE_SIZE.false _ (sym c.next_off.ensures)
 
-pub sh-page-next-spec : {M : Type 1} → statement M
-sh-page-next-spec = tie.close (tie.spec returns next-off-requires returns-2)
+pub sh_page_next_spec : {M : Type 1} → statement M
+sh_page_next_spec = tie.close (tie.spec returns-then-page-ne-SH_PAGE_SIZE next_off-requires returns)

@@ -13,47 +13,47 @@ use Rattle.scripthash_fields.proofs.LawsFields.{extent_no, extent_written, set_n
 use Rattle.scripthash_fields.proofs.accessors.sh_page_set_extent.Statement.{statement}
 use Rattle.scripthash_fields.proofs.accessors.sh_page_set_extent.Tie as tie
 
-returns : tie.Need-returns
+returns-then-page-ne-SH_PAGE_SIZE : tie.Need-returns-then-page-ne-SH_PAGE_SIZE
 unfolding set_extent
-returns c =
+returns-then-page-ne-SH_PAGE_SIZE c =
     let a = c.before.before.args in
-    set_no a.page.now (set_extent a.page.now a.base a.n) (page_no_lem a.page.now _ c.if1.true)
+    set_no a.page.now (set_extent a.page.now a.base a.n) (page_no_lem a.page.now _ c.if-page-ne-SH_PAGE_SIZE.true)
 
-check-extent-requires : tie.Need-check-extent-requires
-check-extent-requires c κs = search rules
+check_extent-named-requires : tie.Need-check_extent-named-requires
+check_extent-named-requires c κs = search rules
 
-enum_told : tie.Need-enum-told
-enum_told c = search rules
+enum_told-1 : tie.Need-enum_told-1
+enum_told-1 c = search rules
 
-enum-told-2 : tie.Need-enum-told-2
-enum-told-2 c = search rules
+enum_told-in_default : tie.Need-enum_told-in_default
+enum_told-in_default c = search rules
 
-returns-2 : tie.Need-returns-2
+returns-in_default : tie.Need-returns-in_default
 unfolding set_extent
-returns-2 c =
-    let told = c.enum-told2.given.1 in
+returns-in_default c =
+    let told = c.enum_told-in_default-1.given.1 in
     let d = c.before.before in
     let a = d.before.before.before.args in
     let no = set_no a.page.now (set_extent a.page.now a.base a.n)
-    (page_yes a.page.now _ d.before.if1.false
-    ∙ extent_no a.base a.n _ (sym d.check-extent.ensures ∙ ap done_answer told)) in
+    (page_yes a.page.now _ d.before.if-page-ne-SH_PAGE_SIZE.false
+    ∙ extent_no a.base a.n _ (sym d.check_extent-named.ensures ∙ ap done_answer told)) in
     (ap done_answer told ∙ no.0, no.1)
 
-set-version-requires : tie.Need-set-version-requires
-set-version-requires c κs = search rules
+set_version-requires : tie.Need-set_version-requires
+set_version-requires c κs = search rules
 
-put-u64-requires : tie.Need-put-u64-requires
-put-u64-requires c κs = search rules
+put_u64-requires : tie.Need-put_u64-requires
+put_u64-requires c κs = search rules
 
-put-u32-requires : tie.Need-put-u32-requires
-put-u32-requires c κs = search rules
+put_u32-requires : tie.Need-put_u32-requires
+put_u32-requires c κs = search rules
 
-same_length : tie.Need-same-length
-same_length c = search rules
+shape_of-page : tie.Need-shape_of-page
+shape_of-page c = search rules
 
-returns-3 : tie.Need-returns-3
+returns : tie.Need-returns
 unfolding set_field
-returns-3 c =
+returns c =
     let last = c.before.before in
     let second = last.before.before.before.before in
     let first = second.before.before.before.before in
@@ -61,23 +61,23 @@ returns-3 c =
     let d = t.before.before in
     let a = d.before.before.before.args in
     set_yes a.page.now _ (set_extent a.page.now a.base a.n)
-    (extent_written a.page.now d.before.if1.false a.base a.n (sym d.check-extent.ensures
-    ∙ ap done_answer t.enum_told.given.1))
-    (last.put-u32.ensures
+    (extent_written a.page.now d.before.if-page-ne-SH_PAGE_SIZE.false a.base a.n (sym d.check_extent-named.ensures
+    ∙ ap done_answer t.enum_told-1.given.1))
+    (last.put_u32.ensures
     ∙ ap (λ (b : List ℕ). overwrite b 16 (bytes_of 4 a.n))
-    (second.put-u64.ensures ∙ ap (λ (b : List ℕ). overwrite b 8 (bytes_of 8 a.base)) first.set-version.ensures))
+    (second.put_u64.ensures ∙ ap (λ (b : List ℕ). overwrite b 8 (bytes_of 8 a.base)) first.set_version.ensures))
 
-pub sh-page-set-extent-spec : {M : Type 1} → statement M
-sh-page-set-extent-spec =
+pub sh_page_set_extent_spec : {M : Type 1} → statement M
+sh_page_set_extent_spec =
     tie.close
     (tie.spec
-    returns
-    check-extent-requires
-    enum_told
-    enum-told-2
-    returns-2
-    set-version-requires
-    put-u64-requires
-    put-u32-requires
-    same_length
-    returns-3)
+    returns-then-page-ne-SH_PAGE_SIZE
+    check_extent-named-requires
+    enum_told-1
+    enum_told-in_default
+    returns-in_default
+    set_version-requires
+    put_u64-requires
+    put_u32-requires
+    shape_of-page
+    returns)

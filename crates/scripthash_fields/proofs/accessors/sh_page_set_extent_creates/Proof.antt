@@ -8,42 +8,42 @@ use Rattle.scripthash_fields.proofs.LawsFields.{creates_idle, creates_set, set_n
 use Rattle.scripthash_fields.proofs.accessors.sh_page_set_extent_creates.Statement.{statement}
 use Rattle.scripthash_fields.proofs.accessors.sh_page_set_extent_creates.Tie as tie
 
-returns : tie.Need-returns
+returns-then-page-ne-SH_PAGE_SIZE : tie.Need-returns-then-page-ne-SH_PAGE_SIZE
 unfolding set_creates
-returns c =
+returns-then-page-ne-SH_PAGE_SIZE c =
     let a = c.before.before.args in
-    set_no a.page.now (set_creates a.page.now a.n) (page_no_lem a.page.now _ c.if1.true)
+    set_no a.page.now (set_creates a.page.now a.n) (page_no_lem a.page.now _ c.if-page-ne-SH_PAGE_SIZE.true)
 
-version-of-requires : tie.Need-version-of-requires
-version-of-requires c κs = search rules
+version_of-version-requires : tie.Need-version_of-version-requires
+version_of-version-requires c κs = search rules
 
-same_length : tie.Need-same-length
-same_length c = search rules
+shape_of-page-then-version-ne-SH_PAGE_EXTENT_VER : tie.Need-shape_of-page-then-version-ne-SH_PAGE_EXTENT_VER
+shape_of-page-then-version-ne-SH_PAGE_EXTENT_VER c = search rules
 
-returns-2 : tie.Need-returns-2
-returns-2 c =
+returns-then-version-ne-SH_PAGE_EXTENT_VER : tie.Need-returns-then-version-ne-SH_PAGE_EXTENT_VER
+returns-then-version-ne-SH_PAGE_EXTENT_VER c =
     let a = c.before.before.before.before.before.args in
     set_yes a.page.now a.page.now (set_creates a.page.now a.n)
-    (creates_idle a.page.now c.before.before.before.if1.false a.n c.before.version_of.result
-    c.before.version_of.ensures c.if2.true) refl
+    (creates_idle a.page.now c.before.before.before.if-page-ne-SH_PAGE_SIZE.false a.n c.before.version_of-version.result
+    c.before.version_of-version.ensures c.if-version-ne-SH_PAGE_EXTENT_VER.true) refl
 
-put-u32-requires : tie.Need-put-u32-requires
-put-u32-requires c κs = search rules
+put_u32-requires : tie.Need-put_u32-requires
+put_u32-requires c κs = search rules
 
-same-length-2 : tie.Need-same-length-2
-same-length-2 c = search rules
+shape_of-page : tie.Need-shape_of-page
+shape_of-page c = search rules
 
-returns-3 : tie.Need-returns-3
+returns : tie.Need-returns
 unfolding set_field
-returns-3 c =
+returns c =
     let put = c.before.before in
     let v = put.before.before.before in
     let a = v.before.before.before.before.args in
     set_yes a.page.now _ (set_creates a.page.now a.n)
-    (creates_set a.page.now v.before.before.if1.false a.n v.version_of.result v.version_of.ensures
-    put.before.before.if2.false)
-    put.put-u32.ensures
+    (creates_set a.page.now v.before.before.if-page-ne-SH_PAGE_SIZE.false a.n v.version_of-version.result v.version_of-version.ensures
+    put.before.before.if-version-ne-SH_PAGE_EXTENT_VER.false)
+    put.put_u32.ensures
 
-pub sh-page-set-extent-creates-spec : {M : Type 1} → statement M
-sh-page-set-extent-creates-spec =
-    tie.close (tie.spec returns version-of-requires same_length returns-2 put-u32-requires same-length-2 returns-3)
+pub sh_page_set_extent_creates_spec : {M : Type 1} → statement M
+sh_page_set_extent_creates_spec =
+    tie.close (tie.spec returns-then-page-ne-SH_PAGE_SIZE version_of-version-requires shape_of-page-then-version-ne-SH_PAGE_EXTENT_VER returns-then-version-ne-SH_PAGE_EXTENT_VER put_u32-requires shape_of-page returns)

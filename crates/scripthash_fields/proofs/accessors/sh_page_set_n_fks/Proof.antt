@@ -7,25 +7,25 @@ use Rattle.scripthash_fields.proofs.LawsFields.{set_no, set_yes}
 use Rattle.scripthash_fields.proofs.accessors.sh_page_set_n_fks.Statement.{statement}
 use Rattle.scripthash_fields.proofs.accessors.sh_page_set_n_fks.Tie as tie
 
-returns : tie.Need-returns
+returns-then-page-ne-SH_PAGE_SIZE : tie.Need-returns-then-page-ne-SH_PAGE_SIZE
 unfolding set_count
-returns c =
+returns-then-page-ne-SH_PAGE_SIZE c =
     let a = c.before.before.args in
-    set_no a.page.now (set_count a.page.now a.n) (page_no_lem a.page.now _ c.if1.true)
+    set_no a.page.now (set_count a.page.now a.n) (page_no_lem a.page.now _ c.if-page-ne-SH_PAGE_SIZE.true)
 
-put-u16-requires : tie.Need-put-u16-requires
-put-u16-requires c κs = search rules
+put_u16-requires : tie.Need-put_u16-requires
+put_u16-requires c κs = search rules
 
-same_length : tie.Need-same-length
-same_length c = search rules
+shape_of-page : tie.Need-shape_of-page
+shape_of-page c = search rules
 
-returns-2 : tie.Need-returns-2
+returns : tie.Need-returns
 unfolding set_count set_field
-returns-2 c =
+returns c =
     let put = c.before.before in
     let a = put.before.before.before.before.args in
-    set_yes a.page.now _ (set_count a.page.now a.n) (page_yes a.page.now _ put.before.before.if1.false)
-    put.put-u16.ensures
+    set_yes a.page.now _ (set_count a.page.now a.n) (page_yes a.page.now _ put.before.before.if-page-ne-SH_PAGE_SIZE.false)
+    put.put_u16.ensures
 
-pub sh-page-set-n-fks-spec : {M : Type 1} → statement M
-sh-page-set-n-fks-spec = tie.close (tie.spec returns put-u16-requires same_length returns-2)
+pub sh_page_set_n_fks_spec : {M : Type 1} → statement M
+sh_page_set_n_fks_spec = tie.close (tie.spec returns-then-page-ne-SH_PAGE_SIZE put_u16-requires shape_of-page returns)

@@ -9,19 +9,19 @@ use Rattle.scripthash_fields.proofs.LawsFields.{stream_cap_is, stream_off_within
 use Rattle.scripthash_fields.proofs.accessors.sh_page_stream_cap.Statement.{statement}
 use Rattle.scripthash_fields.proofs.accessors.sh_page_stream_cap.Tie as tie
 
-returns : tie.Need-returns
+returns-then-page-ne-SH_PAGE_SIZE : tie.Need-returns-then-page-ne-SH_PAGE_SIZE
 unfolding stream_cap_of
-returns c = sym (page_no_lem c.before.before.args.page.now _ c.if1.true)
+returns-then-page-ne-SH_PAGE_SIZE c = sym (page_no_lem c.before.before.args.page.now _ c.if-page-ne-SH_PAGE_SIZE.true)
 
-stream-off-requires : tie.Need-stream-off-requires
-stream-off-requires c κs = search rules
+stream_off-requires : tie.Need-stream_off-requires
+stream_off-requires c κs = search rules
 
-sub-t4 : tie.Need-overflow-sub-t4
-sub-t4 c = omega (arith, c.stream-off.ensures, stream_off_within c.before.before.before.args.page.now)
+overflow_sub-result : tie.Need-overflow_sub-result
+overflow_sub-result c = omega (arith, c.stream_off.ensures, stream_off_within c.before.before.before.args.page.now)
 
-returns-2 : tie.Need-returns-2
-returns-2 c = stream_cap_is c.before.before.before.args.page.now c.before.if1.false c.stream-off.result
-    c.stream-off.ensures
+returns : tie.Need-returns
+returns c = stream_cap_is c.before.before.before.args.page.now c.before.if-page-ne-SH_PAGE_SIZE.false c.stream_off.result
+    c.stream_off.ensures
 
-pub sh-page-stream-cap-spec : {M : Type 1} → statement M
-sh-page-stream-cap-spec = tie.close (tie.spec returns stream-off-requires sub-t4 returns-2)
+pub sh_page_stream_cap_spec : {M : Type 1} → statement M
+sh_page_stream_cap_spec = tie.close (tie.spec returns-then-page-ne-SH_PAGE_SIZE stream_off-requires overflow_sub-result returns)

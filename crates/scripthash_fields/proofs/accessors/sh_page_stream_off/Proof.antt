@@ -7,16 +7,16 @@ use Rattle.scripthash_fields.proofs.LawsFields.{stream_off_is}
 use Rattle.scripthash_fields.proofs.accessors.sh_page_stream_off.Statement.{statement}
 use Rattle.scripthash_fields.proofs.accessors.sh_page_stream_off.Tie as tie
 
-returns : tie.Need-returns
+returns-then-page-ne-SH_PAGE_SIZE : tie.Need-returns-then-page-ne-SH_PAGE_SIZE
 unfolding stream_off_of
-returns c = sym (page_no_lem c.before.before.args.page.now _ c.if1.true)
+returns-then-page-ne-SH_PAGE_SIZE c = sym (page_no_lem c.before.before.args.page.now _ c.if-page-ne-SH_PAGE_SIZE.true)
 
-stream-off-requires : tie.Need-stream-off-requires
-stream-off-requires c κs = search rules
+stream_off-requires : tie.Need-stream_off-requires
+stream_off-requires c κs = search rules
 
-returns-2 : tie.Need-returns-2
-returns-2 c = stream_off_is c.before.before.before.args.page.now c.before.if1.false c.stream-off.result
-    c.stream-off.ensures
+returns : tie.Need-returns
+returns c = stream_off_is c.before.before.before.args.page.now c.before.if-page-ne-SH_PAGE_SIZE.false c.stream_off.result
+    c.stream_off.ensures
 
-pub sh-page-stream-off-spec : {M : Type 1} → statement M
-sh-page-stream-off-spec = tie.close (tie.spec returns stream-off-requires returns-2)
+pub sh_page_stream_off_spec : {M : Type 1} → statement M
+sh_page_stream_off_spec = tie.close (tie.spec returns-then-page-ne-SH_PAGE_SIZE stream_off-requires returns)

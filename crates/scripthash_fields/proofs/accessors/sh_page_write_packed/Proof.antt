@@ -12,62 +12,62 @@ use Rattle.scripthash_fields.proofs.LawsFields.{link_no, link_written, set_no, s
 use Rattle.scripthash_fields.proofs.accessors.sh_page_write_packed.Statement.{statement}
 use Rattle.scripthash_fields.proofs.accessors.sh_page_write_packed.Tie as tie
 
-returns : tie.Need-returns
+returns-then-page-ne-SH_PAGE_SIZE : tie.Need-returns-then-page-ne-SH_PAGE_SIZE
 unfolding write_link
-returns c =
+returns-then-page-ne-SH_PAGE_SIZE c =
     let a = c.before.before.args in
-    set_no a.page.now (write_link a.page.now a.last a.off) (page_no_lem a.page.now _ c.if1.true)
+    set_no a.page.now (write_link a.page.now a.last a.off) (page_no_lem a.page.now _ c.if-page-ne-SH_PAGE_SIZE.true)
 
-check-link-requires : tie.Need-check-link-requires
-check-link-requires c κs = search rules
+check_link-named-requires : tie.Need-check_link-named-requires
+check_link-named-requires c κs = search rules
 
-enum_told : tie.Need-enum-told
-enum_told c = search rules
+enum_told-1 : tie.Need-enum_told-1
+enum_told-1 c = search rules
 
-enum-told-2 : tie.Need-enum-told-2
-enum-told-2 c = search rules
+enum_told-in_default : tie.Need-enum_told-in_default
+enum_told-in_default c = search rules
 
-returns-2 : tie.Need-returns-2
+returns-in_default : tie.Need-returns-in_default
 unfolding write_link
-returns-2 c =
-    let told = c.enum-told2.given.1 in
+returns-in_default c =
+    let told = c.enum_told-in_default-1.given.1 in
     let d = c.before.before in
     let a = d.before.before.before.args in
     let no = set_no a.page.now (write_link a.page.now a.last a.off)
-    (page_yes a.page.now _ d.before.if1.false ∙ link_no a.off _ (sym d.check-link.ensures ∙ ap done_answer told)) in
+    (page_yes a.page.now _ d.before.if-page-ne-SH_PAGE_SIZE.false ∙ link_no a.off _ (sym d.check_link-named.ensures ∙ ap done_answer told)) in
     (ap done_answer told ∙ no.0, no.1)
 
-link-to-requires : tie.Need-link-to-requires
-link-to-requires c κs = search rules
+link_to-requires : tie.Need-link_to-requires
+link_to-requires c κs = search rules
 
-put-u40-requires : tie.Need-put-u40-requires
-put-u40-requires c κs = search rules
+put_u40-requires : tie.Need-put_u40-requires
+put_u40-requires c κs = search rules
 
-same_length : tie.Need-same-length
-same_length c = search rules
+shape_of-page : tie.Need-shape_of-page
+shape_of-page c = search rules
 
-returns-3 : tie.Need-returns-3
+returns : tie.Need-returns
 unfolding set_field
-returns-3 c =
+returns c =
     let put = c.before.before in
     let t = put.before.before.before in
     let d = t.before.before in
     let a = d.before.before.before.args in
     set_yes a.page.now _ (write_link a.page.now a.last a.off)
-    (link_written a.page.now d.before.if1.false a.last a.off (sym d.check-link.ensures
-    ∙ ap done_answer t.enum_told.given.1))
-    (put.put-u40.ensures ∙ ap (λ (l : ℕ). overwrite a.page.now 3 (bytes_of 5 l)) put.before.link-to.ensures)
+    (link_written a.page.now d.before.if-page-ne-SH_PAGE_SIZE.false a.last a.off (sym d.check_link-named.ensures
+    ∙ ap done_answer t.enum_told-1.given.1))
+    (put.put_u40.ensures ∙ ap (λ (l : ℕ). overwrite a.page.now 3 (bytes_of 5 l)) put.before.link_to.ensures)
 
-pub sh-page-write-packed-spec : {M : Type 1} → statement M
-sh-page-write-packed-spec =
+pub sh_page_write_packed_spec : {M : Type 1} → statement M
+sh_page_write_packed_spec =
     tie.close
     (tie.spec
-    returns
-    check-link-requires
-    enum_told
-    enum-told-2
-    returns-2
-    link-to-requires
-    put-u40-requires
-    same_length
-    returns-3)
+    returns-then-page-ne-SH_PAGE_SIZE
+    check_link-named-requires
+    enum_told-1
+    enum_told-in_default
+    returns-in_default
+    link_to-requires
+    put_u40-requires
+    shape_of-page
+    returns)

@@ -8,27 +8,27 @@ use Rattle.scripthash_fields.proofs.LawsFields.{turned_fits, turned_named, turne
 use Rattle.scripthash_fields.proofs.fields.check_link.Statement.{statement}
 use Rattle.scripthash_fields.proofs.fields.check_link.Tie as tie
 
-mul-turned : tie.Need-overflow-mul-turned
-mul-turned c = search rules
+overflow_mul-turned : tie.Need-overflow_mul-turned
+overflow_mul-turned c = search rules
 
-add_turned : tie.Need-overflow-add-turned
-add_turned c =
+overflow_add-turned : tie.Need-overflow_add-turned
+overflow_add-turned c =
     let off = c.args.off in
     record { fits = turned_fits (off % page_size) (off / page_size) (omega arith) (omega arith) }
 
-returns : tie.Need-returns
-returns c =
+returns-then-turned-lt-SH_PAGE_INDEX_RANGE : tie.Need-returns-then-turned-lt-SH_PAGE_INDEX_RANGE
+returns-then-turned-lt-SH_PAGE_INDEX_RANGE c =
     let off = c.before.args.off in
-    let named = turned_named (off % page_size) (off / page_size) c.if1.true in
+    let named = turned_named (off % page_size) (off / page_size) c.if-turned-lt-SH_PAGE_INDEX_RANGE.true in
     sym (link_good off _ named.0 named.1)
 
-returns-2 : tie.Need-returns-2
-returns-2 c = sym (link_unaligned_lem c.before.before.args.off _ c.if2.true)
+returns-then-off-ne0 : tie.Need-returns-then-off-ne0
+returns-then-off-ne0 c = sym (link_unaligned_lem c.before.before.args.off _ c.if-off-ne0.true)
 
-returns-3 : tie.Need-returns-3
-returns-3 c =
+returns : tie.Need-returns
+returns c =
     let off = c.before.before.args.off in
-    sym (link_large off _ c.if2.false (turned_large (off % page_size) (off / page_size) c.if2.false c.before.if1.false))
+    sym (link_large off _ c.if-off-ne0.false (turned_large (off % page_size) (off / page_size) c.if-off-ne0.false c.before.if-turned-lt-SH_PAGE_INDEX_RANGE.false))
 
-pub check-link-spec : {M : Type 1} → statement M
-check-link-spec = tie.close (tie.spec mul-turned add_turned returns returns-2 returns-3)
+pub check_link_spec : {M : Type 1} → statement M
+check_link_spec = tie.close (tie.spec overflow_mul-turned overflow_add-turned returns-then-turned-lt-SH_PAGE_INDEX_RANGE returns-then-off-ne0 returns)

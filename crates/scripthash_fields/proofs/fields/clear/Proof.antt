@@ -9,39 +9,39 @@ use Rattle.scripthash_fields.proofs.LawsFields.{clear_step}
 use Rattle.scripthash_fields.proofs.fields.clear.Statement.{statement}
 use Rattle.scripthash_fields.proofs.fields.clear.Tie as tie
 
-abbrev invariant_loop : tie.invariant_loop
+abbrev invariant_loop : tie.invariant-loop-i
 invariant_loop page₀ i₀ page i = (i ≤ length page) × (length page ≡ length page₀) × (take i page ≡ replicate i 0)
 
-abbrev decreases_loop : tie.decreases_loop
+abbrev decreases_loop : tie.decreases-loop-i
 decreases_loop page₀ i₀ page i = length page - i
 
-loop-holds : tie.Need-loop-init invariant_loop decreases_loop
-loop-holds c = (omega arith, refl, refl)
+loop-i-init : tie.Need-loop-i-init invariant_loop decreases_loop
+loop-i-init c = (omega arith, refl, refl)
 
-slice-write-page : tie.Need-slice-write-page invariant_loop decreases_loop
-slice-write-page c = search rules
+bounds-page-i : tie.Need-bounds-page-i invariant_loop decreases_loop
+bounds-page-i c = search rules
 
-add-i : tie.Need-overflow-add-i invariant_loop decreases_loop
-add-i c = search rules
+overflow_add-i : tie.Need-overflow_add-i invariant_loop decreases_loop
+overflow_add-i c = search rules
 
-loop-less : tie.Need-loop-smaller invariant_loop decreases_loop
-loop-less c = simp length-set (omega arith)
+loop-i-smaller : tie.Need-loop-i-smaller invariant_loop decreases_loop
+loop-i-smaller c = simp length-set (omega arith)
 
-loop-again : tie.Need-loop-preserved invariant_loop decreases_loop
-loop-again c =
-    let l = c.before.loop in
+loop-i-preserved : tie.Need-loop-i-preserved invariant_loop decreases_loop
+loop-i-preserved c =
+    let l = c.before.loop-i in
     (simp length-set (omega arith), simp length-set l.invariant.1, clear_step l.page l.i (search rules) l.invariant.2)
 
-same_length : tie.Need-same-length invariant_loop decreases_loop
-same_length c = search rules
+shape_of-page : tie.Need-shape_of-page invariant_loop decreases_loop
+shape_of-page c = search rules
 
 returns : tie.Need-returns invariant_loop decreases_loop
 returns c =
-    let l = c.before.loop in
+    let l = c.before.loop-i in
     let all : l.i ≡ length c.before.before.args.page.now = omega (arith, l.invariant.1) in
     sym (take_all l.i l.page (search rules)) ∙ l.invariant.2 ∙ ap (λ (k : ℕ). replicate k 0) all
 
 pub clear_spec : {M : Type 1} → statement M
 clear_spec =
     tie.close
-    (tie.spec invariant_loop decreases_loop loop-holds slice-write-page add-i loop-less loop-again same_length returns)
+    (tie.spec invariant_loop decreases_loop loop-i-init bounds-page-i overflow_add-i loop-i-smaller loop-i-preserved shape_of-page returns)

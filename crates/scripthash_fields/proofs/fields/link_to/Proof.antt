@@ -13,17 +13,17 @@ last_is : (last : Bool) → (bool_byte last ≡ cond last 1 0) × (bool_byte las
 last_is true = (refl, omega arith)
 last_is false = (refl, omega arith)
 
-mul-result : tie.Need-overflow-mul-result
-mul-result c = search rules
+overflow_mul-result : tie.Need-overflow_mul-result
+overflow_mul-result c = search rules
 
-cast-result : tie.Need-overflow-cast-result
-cast-result c = search rules
+overflow_cast-result : tie.Need-overflow_cast-result
+overflow_cast-result c = search rules
 
-add-result : tie.Need-overflow-add-result
-add-result c = record { fits = omega (arith, last_is c.args.last) }
+overflow_add-result : tie.Need-overflow_add-result
+overflow_add-result c = record { fits = omega (arith, last_is c.args.last) }
 
 returns : tie.Need-returns
 returns c = omega (arith, last_is c.args.last)
 
-pub link-to-spec : {M : Type 1} → statement M
-link-to-spec = tie.close (tie.spec mul-result cast-result add-result returns)
+pub link_to_spec : {M : Type 1} → statement M
+link_to_spec = tie.close (tie.spec overflow_mul-result overflow_cast-result overflow_add-result returns)

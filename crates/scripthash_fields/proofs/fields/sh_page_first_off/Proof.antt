@@ -7,27 +7,27 @@ use Rattle.scripthash_fields.proofs.LawsFields.{first_no, first_yes}
 use Rattle.scripthash_fields.proofs.fields.sh_page_first_off.Statement.{statement}
 use Rattle.scripthash_fields.proofs.fields.sh_page_first_off.Tie as tie
 
-returns : tie.Need-returns
+returns-then-page-ne-SH_PAGE_SIZE : tie.Need-returns-then-page-ne-SH_PAGE_SIZE
 unfolding first_off
-returns c = sym (page_no_lem c.before.before.args.page.now _ c.if1.true)
+returns-then-page-ne-SH_PAGE_SIZE c = sym (page_no_lem c.before.before.args.page.now _ c.if-page-ne-SH_PAGE_SIZE.true)
 
-link-of-requires : tie.Need-link-of-requires
-link-of-requires c κs = search rules
+link_of-link-requires : tie.Need-link_of-link-requires
+link_of-link-requires c κs = search rules
 
-returns-2 : tie.Need-returns-2
-returns-2 c =
+returns-then-link-ne1 : tie.Need-returns-then-link-ne1
+returns-then-link-ne1 c =
     let d = c.before in
-    first_no d.before.before.before.args.page.now d.before.if1.false d.link-of.result d.link-of.ensures.0
-    c.if2.true
+    first_no d.before.before.before.args.page.now d.before.if-page-ne-SH_PAGE_SIZE.false d.link_of-link.result d.link_of-link.ensures.0
+    c.if-link-ne1.true
 
-mul-t6 : tie.Need-overflow-mul-t6
-mul-t6 c = search rules
+overflow_mul-result : tie.Need-overflow_mul-result
+overflow_mul-result c = search rules
 
-returns-3 : tie.Need-returns-3
-returns-3 c =
+returns : tie.Need-returns
+returns c =
     let d = c.before in
-    first_yes d.before.before.before.args.page.now d.before.if1.false d.link-of.result d.link-of.ensures.0
-    c.if2.false
+    first_yes d.before.before.before.args.page.now d.before.if-page-ne-SH_PAGE_SIZE.false d.link_of-link.result d.link_of-link.ensures.0
+    c.if-link-ne1.false
 
-pub sh-page-first-off-spec : {M : Type 1} → statement M
-sh-page-first-off-spec = tie.close (tie.spec returns link-of-requires returns-2 mul-t6 returns-3)
+pub sh_page_first_off_spec : {M : Type 1} → statement M
+sh_page_first_off_spec = tie.close (tie.spec returns-then-page-ne-SH_PAGE_SIZE link_of-link-requires returns-then-link-ne1 overflow_mul-result returns)

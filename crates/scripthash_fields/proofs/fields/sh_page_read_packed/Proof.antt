@@ -7,18 +7,18 @@ use Rattle.scripthash_fields.proofs.LawsFields.{read_link_lem}
 use Rattle.scripthash_fields.proofs.fields.sh_page_read_packed.Statement.{statement}
 use Rattle.scripthash_fields.proofs.fields.sh_page_read_packed.Tie as tie
 
-returns : tie.Need-returns
+returns-then-page-ne-SH_PAGE_SIZE : tie.Need-returns-then-page-ne-SH_PAGE_SIZE
 unfolding read_link
-returns c = sym (page_no_lem c.before.before.args.page.now _ c.if1.true)
+returns-then-page-ne-SH_PAGE_SIZE c = sym (page_no_lem c.before.before.args.page.now _ c.if-page-ne-SH_PAGE_SIZE.true)
 
-link-of-requires : tie.Need-link-of-requires
-link-of-requires c κs = search rules
+link_of-link-requires : tie.Need-link_of-link-requires
+link_of-link-requires c κs = search rules
 
-mul-t7 : tie.Need-overflow-mul-t7
-mul-t7 c = search rules
+overflow_mul-result : tie.Need-overflow_mul-result
+overflow_mul-result c = search rules
 
-returns-2 : tie.Need-returns-2
-returns-2 c = read_link_lem c.before.before.before.args.page.now c.before.if1.false c.link-of.result c.link-of.ensures.0
+returns : tie.Need-returns
+returns c = read_link_lem c.before.before.before.args.page.now c.before.if-page-ne-SH_PAGE_SIZE.false c.link_of-link.result c.link_of-link.ensures.0
 
-pub sh-page-read-packed-spec : {M : Type 1} → statement M
-sh-page-read-packed-spec = tie.close (tie.spec returns link-of-requires mul-t7 returns-2)
+pub sh_page_read_packed_spec : {M : Type 1} → statement M
+sh_page_read_packed_spec = tie.close (tie.spec returns-then-page-ne-SH_PAGE_SIZE link_of-link-requires overflow_mul-result returns)

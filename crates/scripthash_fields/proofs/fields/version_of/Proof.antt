@@ -6,11 +6,11 @@ use Rattle.scripthash_fields.proofs.LawsPage.{field_byte}
 use Rattle.scripthash_fields.proofs.fields.version_of.Statement.{statement}
 use Rattle.scripthash_fields.proofs.fields.version_of.Tie as tie
 
-shared-slice-read-result : tie.Need-shared-slice-read-result
-shared-slice-read-result c = search rules
+bounds-page-0 : tie.Need-bounds-page-0
+bounds-page-0 c = search rules
 
 returns : tie.Need-returns
 returns c = sym (field_byte c.before.args.page.now 0 (omega arith))
 
-pub version-of-spec : {M : Type 1} → statement M
-version-of-spec = tie.close (tie.spec shared-slice-read-result returns)
+pub version_of_spec : {M : Type 1} → statement M
+version_of_spec = tie.close (tie.spec bounds-page-0 returns)

@@ -9,44 +9,44 @@ use Rattle.scripthash_forms.proofs.LawsForms.{quick_form_none, quick_form}
 use Rattle.scripthash_forms.proofs.forms.any_form.Statement.{statement}
 use Rattle.scripthash_forms.proofs.forms.any_form.Tie as tie
 
-sub-read-uleb128 : tie.Need-overflow-sub-read-uleb128
-sub-read-uleb128 c = search rules
+slice_bounds-read_uleb128-count : tie.Need-slice_bounds-read_uleb128-count
+slice_bounds-read_uleb128-count c = search rules
 
-part-read-uleb128-start : tie.Need-slice-bounds-read-uleb128-start
-part-read-uleb128-start c = search rules
+slice_bounds-read_uleb128-start : tie.Need-slice_bounds-read_uleb128-start
+slice_bounds-read_uleb128-start c = search rules
 
-part-read-uleb128-end : tie.Need-slice-bounds-read-uleb128-end
-part-read-uleb128-end c = search rules
+slice_bounds-read_uleb128-end : tie.Need-slice_bounds-read_uleb128-end
+slice_bounds-read_uleb128-end c = search rules
 
-read-uleb128-requires : tie.Need-read-uleb128-requires
-read-uleb128-requires c κs = search rules
+read_uleb128-got-requires : tie.Need-read_uleb128-got-requires
+read_uleb128-got-requires c κs = search rules
 
-enum-known-got : tie.Need-enum-known-got
-enum-known-got c = search rules
+enum_known-got : tie.Need-enum_known-got
+enum_known-got c = search rules
 
-enum_told : tie.Need-enum-told
-enum_told c = search rules
+enum_told-1 : tie.Need-enum_told-1
+enum_told-1 c = search rules
+
+returns-in_default : tie.Need-returns-in_default
+returns-in_default c = quick_form_none _ _
 
 returns : tie.Need-returns
-returns c = quick_form_none _ _
-
-returns-2 : tie.Need-returns-2
-returns-2 c =
-    let told = c.before.got.given in
+returns c =
+    let told = c.before.got-1.given in
     let a = c.before.before.before.before.before.before.args in
-    let read = rw (part_to_end a.buf.now a.i) at c.before.before.before.read-uleb128.ensures in
+    let read = rw (part_to_end a.buf.now a.i) at c.before.before.before.read_uleb128-got.ensures in
     quick_form told.0.0 told.0.1.0 (drop a.i a.buf.now)
     (number_back (drop a.i a.buf.now) (sym read ∙ ap read_uleb_answer told.1))
 
-pub any-form-spec : {M : Type 1} → statement M
-any-form-spec =
+pub any_form_spec : {M : Type 1} → statement M
+any_form_spec =
     tie.close
     (tie.spec
-    sub-read-uleb128
-    part-read-uleb128-start
-    part-read-uleb128-end
-    read-uleb128-requires
-    enum-known-got
-    enum_told
-    returns
-    returns-2)
+    slice_bounds-read_uleb128-count
+    slice_bounds-read_uleb128-start
+    slice_bounds-read_uleb128-end
+    read_uleb128-got-requires
+    enum_known-got
+    enum_told-1
+    returns-in_default
+    returns)

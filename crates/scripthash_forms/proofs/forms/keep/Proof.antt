@@ -6,20 +6,20 @@ use lib.Seq.{set_out}
 use Rattle.scripthash_forms.proofs.forms.keep.Statement.{statement}
 use Rattle.scripthash_forms.proofs.forms.keep.Tie as tie
 
-mul-space : tie.Need-overflow-mul-space
-mul-space c = search rules
+offset_bounds-space-k : tie.Need-offset_bounds-space-k
+offset_bounds-space-k c = search rules
 
-slice-write-space : tie.Need-slice-write-space
-slice-write-space c = search rules
+bounds-space-k : tie.Need-bounds-space-k
+bounds-space-k c = search rules
 
-same_length : tie.Need-same-length
-same_length c = search rules
+shape_of-space : tie.Need-shape_of-space
+shape_of-space c = search rules
 
-returns : tie.Need-returns
-returns c = search rules
+returns-then-k-space : tie.Need-returns-then-k-space
+returns-then-k-space c = search rules
 
-returns-2 : tie.Need-returns-2
-returns-2 c = sym (set_out _ _ _ (omega arith))
+returns-else-k-space : tie.Need-returns-else-k-space
+returns-else-k-space c = sym (set_out _ _ _ (omega arith))
 
 pub keep_spec : {M : Type 1} → statement M
-keep_spec = tie.close (tie.spec mul-space slice-write-space same_length returns returns-2)
+keep_spec = tie.close (tie.spec offset_bounds-space-k bounds-space-k shape_of-space returns-then-k-space returns-else-k-space)

@@ -14,19 +14,19 @@ use Rattle.scripthash_forms.proofs.LawsSums.{next_sum, Summed, summed_start, sum
 use Rattle.scripthash_forms.proofs.forms.sum_forms.Statement.{statement}
 use Rattle.scripthash_forms.proofs.forms.sum_forms.Tie as tie
 
-abbrev invariant_loop : tie.invariant_loop
+abbrev invariant_loop : tie.invariant-loop-k
 invariant_loop buf from prev n space₀ sum₀ i₀ k₀ space sum i k =
     (k ≤ n) × (i ≤ length buf) × (sum < 2 ^ 63) × (length space ≡ length space₀) × Summed buf from prev n space sum i k
 
-abbrev decreases_loop : tie.decreases_loop
+abbrev decreases_loop : tie.decreases-loop-k
 decreases_loop buf from prev n space₀ sum₀ i₀ k₀ space sum i k = n - k
 
 -- a form that was read, and the number that it gives
-module _ (c : tie.After-struct-known3 invariant_loop decreases_loop) where
-  abbrev read : tie.After-short-form invariant_loop decreases_loop
+module _ (c : tie.After-struct_known-in-loop-k-2-1 invariant_loop decreases_loop) where
+  abbrev read : tie.After-short_form-form invariant_loop decreases_loop
   read = c.before.before.before.before.before
 
-  abbrev loc : tie.At-loop invariant_loop decreases_loop
+  abbrev loc : tie.At-loop-k invariant_loop decreases_loop
   loc = read.before.before
 
   abbrev args : tie.Start invariant_loop decreases_loop
@@ -36,60 +36,60 @@ module _ (c : tie.After-struct-known3 invariant_loop decreases_loop) where
   bytes = args.args.buf.now
 
   abbrev got : Reading
-  got = record { value = loc.loop.sum + read.short_form.result.value; len = read.short_form.result.len }
+  got = record { value = loc.loop-k.sum + read.short_form-form.result.value; len = read.short_form-form.result.len }
 
-  is : next_number loc.loop.sum (drop loc.loop.i bytes) ≡ accepted got
-  is = next_sum loc.loop.sum read.short_form.result.value got.len (drop loc.loop.i bytes) read.short_form.ensures
+  is : next_number loc.loop-k.sum (drop loc.loop-k.i bytes) ≡ accepted got
+  is = next_sum loc.loop-k.sum read.short_form-form.result.value got.len (drop loc.loop-k.i bytes) read.short_form-form.ensures
       (omega arith) (omega arith)
 
-  number : Next loc.loop.sum (drop loc.loop.i bytes) got
-  number = next_accepted loc.loop.sum (drop loc.loop.i bytes) got is
+  number : Next loc.loop-k.sum (drop loc.loop-k.i bytes) got
+  number = next_accepted loc.loop-k.sum (drop loc.loop-k.i bytes) got is
 
-  inside : loc.loop.i + got.len ≤ length bytes
+  inside : loc.loop-k.i + got.len ≤ length bytes
   inside = let h = simp length-drop at number.len_within in omega arith
 
-loop-holds : tie.Need-loop-init invariant_loop decreases_loop
-loop-holds c =
+loop-k-init : tie.Need-loop-k-init invariant_loop decreases_loop
+loop-k-init c =
     let a = c.before.before.args in
     (search rules, search rules, search rules, refl, summed_start a.buf.now a.from a.prev a.n a.space.now)
 
-short-form-requires : tie.Need-short-form-requires invariant_loop decreases_loop
-short-form-requires c κs = search rules
+short_form-form-requires : tie.Need-short_form-form-requires invariant_loop decreases_loop
+short_form-form-requires c κs = search rules
 
-same_length : tie.Need-same-length invariant_loop decreases_loop
-same_length c = search rules
+shape_of-space-then-form-eq0 : tie.Need-shape_of-space-then-form-eq0 invariant_loop decreases_loop
+shape_of-space-then-form-eq0 c = search rules
 
-returns : tie.Need-returns invariant_loop decreases_loop
-returns c = quick_sum_none _ _ _ _ _
+returns-then-form-eq0 : tie.Need-returns-then-form-eq0 invariant_loop decreases_loop
+returns-then-form-eq0 c = quick_sum_none _ _ _ _ _
 
-sub-if2 : tie.Need-overflow-sub-if2 invariant_loop decreases_loop
-sub-if2 c = search rules
+overflow_sub-sum : tie.Need-overflow_sub-sum invariant_loop decreases_loop
+overflow_sub-sum c = search rules
 
-same-length-2 : tie.Need-same-length-2 invariant_loop decreases_loop
-same-length-2 c = search rules
+shape_of-space-then-sum-form : tie.Need-shape_of-space-then-sum-form invariant_loop decreases_loop
+shape_of-space-then-sum-form c = search rules
 
-returns-2 : tie.Need-returns-2 invariant_loop decreases_loop
-returns-2 c = quick_sum_none _ _ _ _ _
+returns-then-sum-form : tie.Need-returns-then-sum-form invariant_loop decreases_loop
+returns-then-sum-form c = quick_sum_none _ _ _ _ _
 
-add-sum : tie.Need-overflow-add-sum invariant_loop decreases_loop
-add-sum c = search rules
+overflow_add-sum : tie.Need-overflow_add-sum invariant_loop decreases_loop
+overflow_add-sum c = search rules
 
 keep-requires : tie.Need-keep-requires invariant_loop decreases_loop
 keep-requires c κs = search rules
 
-add-i : tie.Need-overflow-add-i invariant_loop decreases_loop
-add-i c = omega (arith, inside c.before.before.before.before.before)
+overflow_add-i : tie.Need-overflow_add-i invariant_loop decreases_loop
+overflow_add-i c = omega (arith, inside c.before.before.before.before.before)
 
-add-k : tie.Need-overflow-add-k invariant_loop decreases_loop
-add-k c = search rules
+overflow_add-k : tie.Need-overflow_add-k invariant_loop decreases_loop
+overflow_add-k c = search rules
 
-loop-less : tie.Need-loop-smaller invariant_loop decreases_loop
-loop-less c = search rules
+loop-k-smaller : tie.Need-loop-k-smaller invariant_loop decreases_loop
+loop-k-smaller c = search rules
 
-loop-again : tie.Need-loop-preserved invariant_loop decreases_loop
-loop-again c =
+loop-k-preserved : tie.Need-loop-k-preserved invariant_loop decreases_loop
+loop-k-preserved c =
     let d = c.before.before.before.before.before in
-    let l = (loc d).loop in
+    let l = (loc d).loop-k in
     let a = (args d).args in
     let kept = c.before.before.before.keep.ensures in (
       search rules,
@@ -99,33 +99,33 @@ loop-again c =
       rw kept (summed_next (bytes d) a.from a.prev a.n l.space l.sum l.i l.k l.inv.4 (got d) (is d) (omega arith)),
     )
 
-same-length-3 : tie.Need-same-length-3 invariant_loop decreases_loop
-same-length-3 c = search rules
+shape_of-space : tie.Need-shape_of-space invariant_loop decreases_loop
+shape_of-space c = search rules
 
-returns-3 : tie.Need-returns-3 invariant_loop decreases_loop
-returns-3 c =
-    let l = c.before.loop in
+returns : tie.Need-returns invariant_loop decreases_loop
+returns c =
+    let l = c.before.loop-k in
     let a = c.before.before.before.before.args in
     summed_end a.buf.now a.from a.prev a.n l.space l.sum l.i l.k l.invariant.4 (omega arith) l.invariant.1 l.invariant.2
 
-pub sum-forms-spec : {M : Type 1} → statement M
-sum-forms-spec =
+pub sum_forms_spec : {M : Type 1} → statement M
+sum_forms_spec =
     tie.close
     (tie.spec
     invariant_loop
     decreases_loop
-    loop-holds
-    short-form-requires
-    same_length
-    returns
-    sub-if2
-    same-length-2
-    returns-2
-    add-sum
+    loop-k-init
+    short_form-form-requires
+    shape_of-space-then-form-eq0
+    returns-then-form-eq0
+    overflow_sub-sum
+    shape_of-space-then-sum-form
+    returns-then-sum-form
+    overflow_add-sum
     keep-requires
-    add-i
-    add-k
-    loop-less
-    loop-again
-    same-length-3
-    returns-3)
+    overflow_add-i
+    overflow_add-k
+    loop-k-smaller
+    loop-k-preserved
+    shape_of-space
+    returns)

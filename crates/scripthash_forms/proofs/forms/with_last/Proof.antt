@@ -14,14 +14,14 @@ module _ (c : tie.After-wide) where
 wide-requires : tie.Need-wide-requires
 wide-requires c κs = search rules
 
-mul-t6 : tie.Need-overflow-mul-t6
-mul-t6 c = omega (arith, most c)
+overflow_mul-result : tie.Need-overflow_mul-result
+overflow_mul-result c = omega (arith, most c)
 
-add-t7 : tie.Need-overflow-add-t7
-add-t7 c = omega (arith, most c)
+overflow_add-result : tie.Need-overflow_add-result
+overflow_add-result c = omega (arith, most c)
 
 returns : tie.Need-returns
 returns c = (rw c.wide.ensures, refl)
 
-pub with-last-spec : {M : Type 1} → statement M
-with-last-spec = tie.close (tie.spec wide-requires mul-t6 add-t7 returns)
+pub with_last_spec : {M : Type 1} → statement M
+with_last_spec = tie.close (tie.spec wide-requires overflow_mul-result overflow_add-result returns)

@@ -13,17 +13,17 @@ module _ (c : tie.After-wide) where
 wide-requires : tie.Need-wide-requires
 wide-requires c κs = search rules
 
-sub-result : tie.Need-overflow-sub-result
-sub-result c = search rules
+overflow_sub-result : tie.Need-overflow_sub-result
+overflow_sub-result c = search rules
 
-mul-result : tie.Need-overflow-mul-result
-mul-result c = omega (arith, most c)
+overflow_mul-result : tie.Need-overflow_mul-result
+overflow_mul-result c = omega (arith, most c)
 
-add-result : tie.Need-overflow-add-result
-add-result c = omega (arith, most c)
+overflow_add-result : tie.Need-overflow_add-result
+overflow_add-result c = omega (arith, most c)
 
 returns : tie.Need-returns
 returns c = (rw c.wide.ensures, omega (arith, most c))
 
-pub with-more-spec : {M : Type 1} → statement M
-with-more-spec = tie.close (tie.spec wide-requires sub-result mul-result add-result returns)
+pub with_more_spec : {M : Type 1} → statement M
+with_more_spec = tie.close (tie.spec wide-requires overflow_sub-result overflow_mul-result overflow_add-result returns)

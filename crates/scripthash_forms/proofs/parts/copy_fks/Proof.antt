@@ -13,12 +13,12 @@ use Rattle.scripthash_stream.proofs.LawsStream.{front}
 use Rattle.scripthash_forms.proofs.parts.copy_fks.Statement.{statement}
 use Rattle.scripthash_forms.proofs.parts.copy_fks.Tie as tie
 
-abbrev invariant_loop : tie.invariant_loop
+abbrev invariant_loop : tie.invariant-loop-k
 invariant_loop from n out₀ at k₀ out k =
     (k ≤ n) × (n ≤ length from) × (at + n ≤ length out₀) × (length out ≡ length out₀)
     × (overwrite out (at + k) (take (n - k) (drop k from)) ≡ overwrite out₀ at (take n from))
 
-abbrev decreases_loop : tie.decreases_loop
+abbrev decreases_loop : tie.decreases-loop-k
 decreases_loop from n out₀ at k₀ out k = n - k
 
 -- the next number to copy, and those behind it
@@ -31,35 +31,35 @@ copied from n out at k h l i =
     rw (more, front from k (omega arith), place)
     (sym (overwrite_step out (at + k) (get_or from k 0) (take (n - (k + 1)) (drop (k + 1) from)) i))
 
-loop-holds : tie.Need-loop-init invariant_loop decreases_loop
-loop-holds c =
+loop-k-init : tie.Need-loop-k-init invariant_loop decreases_loop
+loop-k-init c =
     let a = c.args in
     (search rules, search rules, search rules, refl, rw (sub-zero a.n, add-zero a.at))
 
-mul-out : tie.Need-overflow-mul-out invariant_loop decreases_loop
-mul-out c = search rules
+offset_bounds-from-k : tie.Need-offset_bounds-from-k invariant_loop decreases_loop
+offset_bounds-from-k c = search rules
 
-shared-slice-read-out : tie.Need-shared-slice-read-out invariant_loop decreases_loop
-shared-slice-read-out c = search rules
+bounds-from-k : tie.Need-bounds-from-k invariant_loop decreases_loop
+bounds-from-k c = search rules
 
-mul-out-2 : tie.Need-overflow-mul-out-2 invariant_loop decreases_loop
-mul-out-2 c = search rules
+offset_bounds-out-at : tie.Need-offset_bounds-out-at invariant_loop decreases_loop
+offset_bounds-out-at c = search rules
 
-add-out : tie.Need-overflow-add-out invariant_loop decreases_loop
-add-out c = search rules
+overflow_add-out : tie.Need-overflow_add-out invariant_loop decreases_loop
+overflow_add-out c = search rules
 
-slice-write-out : tie.Need-slice-write-out invariant_loop decreases_loop
-slice-write-out c = search rules
+bounds-out-at : tie.Need-bounds-out-at invariant_loop decreases_loop
+bounds-out-at c = search rules
 
-add-k : tie.Need-overflow-add-k invariant_loop decreases_loop
-add-k c = search rules
+overflow_add-k : tie.Need-overflow_add-k invariant_loop decreases_loop
+overflow_add-k c = search rules
 
-loop-less : tie.Need-loop-smaller invariant_loop decreases_loop
-loop-less c = search rules
+loop-k-smaller : tie.Need-loop-k-smaller invariant_loop decreases_loop
+loop-k-smaller c = search rules
 
-loop-again : tie.Need-loop-preserved invariant_loop decreases_loop
-loop-again c =
-    let l = c.before.before.loop in
+loop-k-preserved : tie.Need-loop-k-preserved invariant_loop decreases_loop
+loop-k-preserved c =
+    let l = c.before.before.loop-k in
     let a = c.before.before.before.args in (
       search rules,
       l.invariant.1,
@@ -68,30 +68,30 @@ loop-again c =
       copied a.from.now a.n l.out a.at l.k (omega arith) l.invariant.1 (omega arith) ∙ l.invariant.4,
     )
 
-same_length : tie.Need-same-length invariant_loop decreases_loop
-same_length c = search rules
+shape_of-out : tie.Need-shape_of-out invariant_loop decreases_loop
+shape_of-out c = search rules
 
 returns : tie.Need-returns invariant_loop decreases_loop
 returns c =
-    let l = c.before.loop in
+    let l = c.before.loop-k in
     let a = c.before.before.args in
     let none : a.n - l.k ≡ 0 = omega arith in
     sym (overwrite_nil l.out (a.at + l.k)) ∙ (rw none at l.invariant.4)
 
-pub copy-fks-spec : {M : Type 1} → statement M
-copy-fks-spec =
+pub copy_fks_spec : {M : Type 1} → statement M
+copy_fks_spec =
     tie.close
     (tie.spec
     invariant_loop
     decreases_loop
-    loop-holds
-    mul-out
-    shared-slice-read-out
-    add-out
-    mul-out-2
-    slice-write-out
-    add-k
-    loop-less
-    loop-again
-    same_length
+    loop-k-init
+    offset_bounds-from-k
+    bounds-from-k
+    overflow_add-out
+    offset_bounds-out-at
+    bounds-out-at
+    overflow_add-k
+    loop-k-smaller
+    loop-k-preserved
+    shape_of-out
     returns)

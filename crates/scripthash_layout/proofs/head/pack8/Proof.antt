@@ -6,93 +6,93 @@ use Rattle.scripthash_layout.specs.Head.{pack_head}
 use Rattle.scripthash_layout.proofs.head.pack8.Statement.{statement}
 use Rattle.scripthash_layout.proofs.head.pack8.Tie as tie
 
-enum_told : tie.Need-enum-told
-enum_told c = search rules
+enum_told-1 : tie.Need-enum_told-1
+enum_told-1 c = search rules
 
-enum-known-v : tie.Need-enum-known-v
-enum-known-v c = search rules
+enum_known-v : tie.Need-enum_known-v
+enum_known-v c = search rules
 
-cast-if1 : tie.Need-overflow-cast-if1
-cast-if1 c = search rules
+overflow_cast-used : tie.Need-overflow_cast-used
+overflow_cast-used c = search rules
 
-returns : tie.Need-returns
+returns-then-used-ne-SH_INLINE_CAP : tie.Need-returns-then-used-ne-SH_INLINE_CAP
 unfolding pack_head refuse_if
-returns c = rw c.before.before.v.given.1 (search (rules, lt-leb, le-leb, eq-eqb, ne_eqb))
+returns-then-used-ne-SH_INLINE_CAP c = rw c.before.before.v-1.given.1 (search (rules, lt-leb, le-leb, eq-eqb, ne_eqb))
 
-returns-2 : tie.Need-returns-2
+returns-then-entry-ge-SH8_MODE_UNIT : tie.Need-returns-then-entry-ge-SH8_MODE_UNIT
 unfolding pack_head refuse_if
-returns-2 c = rw c.before.before.before.v.given.1 (search (rules, lt-leb, le-leb, eq-eqb))
+returns-then-entry-ge-SH8_MODE_UNIT c = rw c.before.before.before.v-1.given.1 (search (rules, lt-leb, le-leb, eq-eqb))
 
-enum-known-v-2 : tie.Need-enum-known-v-2
-enum-known-v-2 c = search rules
+enum_known-v-in-Slab-1 : tie.Need-enum_known-v-in-Slab-1
+enum_known-v-in-Slab-1 c = search rules
 
-returns-3 : tie.Need-returns-3
+returns-then-off-ge-SH8_USED_UNIT : tie.Need-returns-then-off-ge-SH8_USED_UNIT
 unfolding pack_head refuse_if
-returns-3 c = rw c.before.before.v2.given.1 (search (rules, lt-leb, le-leb, eq-eqb))
+returns-then-off-ge-SH8_USED_UNIT c = rw c.before.before.v-in-Slab-1.given.1 (search (rules, lt-leb, le-leb, eq-eqb))
 
-cast-if4 : tie.Need-overflow-cast-if4
-cast-if4 c = search rules
+overflow_cast-class : tie.Need-overflow_cast-class
+overflow_cast-class c = search rules
 
-returns-4 : tie.Need-returns-4
+returns-then-class-ge-SH8_CLASS_RANGE : tie.Need-returns-then-class-ge-SH8_CLASS_RANGE
 unfolding pack_head refuse_if
-returns-4 c = rw c.before.before.before.v2.given.1 (search (rules, lt-leb, le-leb, eq-eqb))
+returns-then-class-ge-SH8_CLASS_RANGE c = rw c.before.before.before.v-in-Slab-1.given.1 (search (rules, lt-leb, le-leb, eq-eqb))
 
-slab-word-requires : tie.Need-slab-word-requires
-slab-word-requires c κs = search rules
+slab_word-requires : tie.Need-slab_word-requires
+slab_word-requires c κs = search rules
 
-enum-known-v-3 : tie.Need-enum-known-v-3
-enum-known-v-3 c = search rules
+enum_known-v-in-Extent-1 : tie.Need-enum_known-v-in-Extent-1
+enum_known-v-in-Extent-1 c = search rules
 
-returns-5 : tie.Need-returns-5
+returns-then-last_page-eq0 : tie.Need-returns-then-last_page-eq0
 unfolding pack_head refuse_if
-returns-5 c = rw c.before.before.v3.given.1 (search (rules, lt-leb, le-leb, eq-eqb))
+returns-then-last_page-eq0 c = rw c.before.before.v-in-Extent-1.given.1 (search (rules, lt-leb, le-leb, eq-eqb))
 
-returns-6 : tie.Need-returns-6
+returns-then-last_page-ge-SH8_MODE_UNIT : tie.Need-returns-then-last_page-ge-SH8_MODE_UNIT
 unfolding pack_head refuse_if
-returns-6 c = rw c.before.before.before.v3.given.1 (search (rules, lt-leb, le-leb, eq-eqb, ne_eqb))
+returns-then-last_page-ge-SH8_MODE_UNIT c = rw c.before.before.before.v-in-Extent-1.given.1 (search (rules, lt-leb, le-leb, eq-eqb, ne_eqb))
 
-mul-t14 : tie.Need-overflow-mul-t14
-mul-t14 c = search rules
+overflow_mul-result : tie.Need-overflow_mul-result
+overflow_mul-result c = search rules
 
-add-t15 : tie.Need-overflow-add-t15
-add-t15 c = search rules
+overflow_add-result : tie.Need-overflow_add-result
+overflow_add-result c = search rules
 
-returns-7 : tie.Need-returns-7
+returns-in-Empty : tie.Need-returns-in-Empty
 unfolding pack_head refuse_if
-returns-7 c = rw c.enum_told.given.1 (search rules)
+returns-in-Empty c = rw c.enum_told-1.given.1 (search rules)
 
-returns-8 : tie.Need-returns-8
+returns-else-entry-ge-SH8_MODE_UNIT : tie.Need-returns-else-entry-ge-SH8_MODE_UNIT
 unfolding pack_head refuse_if
-returns-8 c = rw c.before.before.before.v.given.1 (search (rules, lt-leb, le-leb, eq-eqb))
+returns-else-entry-ge-SH8_MODE_UNIT c = rw c.before.before.before.v-1.given.1 (search (rules, lt-leb, le-leb, eq-eqb))
 
-returns-9 : tie.Need-returns-9
+returns-else-class-ge-SH8_CLASS_RANGE : tie.Need-returns-else-class-ge-SH8_CLASS_RANGE
 unfolding pack_head refuse_if
-returns-9 c = rw c.before.before.before.before.v2.given.1 (search (rules, lt-leb, le-leb, eq-eqb))
+returns-else-class-ge-SH8_CLASS_RANGE c = rw c.before.before.before.before.v-in-Slab-1.given.1 (search (rules, lt-leb, le-leb, eq-eqb))
 
-returns-10 : tie.Need-returns-10
+returns-else-last_page-ge-SH8_MODE_UNIT : tie.Need-returns-else-last_page-ge-SH8_MODE_UNIT
 unfolding pack_head refuse_if
-returns-10 c = rw c.before.before.before.v3.given.1 (search (rules, lt-leb, le-leb, eq-eqb, ne_eqb))
+returns-else-last_page-ge-SH8_MODE_UNIT c = rw c.before.before.before.v-in-Extent-1.given.1 (search (rules, lt-leb, le-leb, eq-eqb, ne_eqb))
 
-pub pack8-spec : {M : Type 1} → statement M
-pack8-spec =
+pub pack8_spec : {M : Type 1} → statement M
+pack8_spec =
     tie.close
     (tie.spec
-    enum_told
-    enum-known-v
-    cast-if1
-    returns
-    returns-2
-    enum-known-v-2
-    returns-3
-    cast-if4
-    returns-4
-    slab-word-requires
-    enum-known-v-3
-    returns-5
-    returns-6
-    mul-t14
-    add-t15
-    returns-7
-    returns-8
-    returns-9
-    returns-10)
+    enum_told-1
+    enum_known-v
+    overflow_cast-used
+    returns-then-used-ne-SH_INLINE_CAP
+    returns-then-entry-ge-SH8_MODE_UNIT
+    enum_known-v-in-Slab-1
+    returns-then-off-ge-SH8_USED_UNIT
+    overflow_cast-class
+    returns-then-class-ge-SH8_CLASS_RANGE
+    slab_word-requires
+    enum_known-v-in-Extent-1
+    returns-then-last_page-eq0
+    returns-then-last_page-ge-SH8_MODE_UNIT
+    overflow_mul-result
+    overflow_add-result
+    returns-in-Empty
+    returns-else-entry-ge-SH8_MODE_UNIT
+    returns-else-class-ge-SH8_CLASS_RANGE
+    returns-else-last_page-ge-SH8_MODE_UNIT)

@@ -7,30 +7,30 @@ use Rattle.scripthash_layout.specs.Head.{pack_head, head_bytes}
 use Rattle.scripthash_layout.proofs.head.pack8_bytes.Statement.{statement}
 use Rattle.scripthash_layout.proofs.head.pack8_bytes.Tie as tie
 
-pack8-requires : tie.Need-pack8-requires
-pack8-requires c κs = search rules
+pack8-packed-requires : tie.Need-pack8-packed-requires
+pack8-packed-requires c κs = search rules
 
-enum-known-packed : tie.Need-enum-known-packed
-enum-known-packed c = search rules
+enum_known-packed : tie.Need-enum_known-packed
+enum_known-packed c = search rules
 
-enum_told : tie.Need-enum-told
-enum_told c = search rules
+enum_told-1 : tie.Need-enum_told-1
+enum_told-1 c = search rules
+
+returns-in_default : tie.Need-returns-in_default
+unfolding head_bytes
+returns-in_default c = (c.before.before.pack8-packed.ensures, rw (← c.before.before.pack8-packed.ensures, c.enum_told-1.given.1))
+
+u64_bytes-requires : tie.Need-u64_bytes-requires
+u64_bytes-requires c κs = search rules
 
 returns : tie.Need-returns
 unfolding head_bytes
-returns c = (c.before.before.pack8.ensures, rw (← c.before.before.pack8.ensures, c.enum_told.given.1))
+returns c =
+    let e : pack_head c.before.before.before.before.before.args.v ≡ accepted c.before.before.packed-1.given.0.0 =
+    sym c.before.before.before.before.pack8-packed.ensures ∙ ap pack_answer c.before.before.packed-1.given.1 in
+    (sym e, rw e c.u64_bytes.ensures)
 
-u64-bytes-requires : tie.Need-u64-bytes-requires
-u64-bytes-requires c κs = search rules
-
-returns-2 : tie.Need-returns-2
-unfolding head_bytes
-returns-2 c =
-    let e : pack_head c.before.before.before.before.before.args.v ≡ accepted c.before.before.packed.given.0.0 =
-    sym c.before.before.before.before.pack8.ensures ∙ ap pack_answer c.before.before.packed.given.1 in
-    (sym e, rw e c.u64-bytes.ensures)
-
-pub pack8-bytes-spec : {M : Type 1} → statement M
-pack8-bytes-spec =
+pub pack8_bytes_spec : {M : Type 1} → statement M
+pack8_bytes_spec =
     tie.close
-    (tie.spec pack8-requires enum-known-packed enum_told returns u64-bytes-requires returns-2)
+    (tie.spec pack8-packed-requires enum_known-packed enum_told-1 returns-in_default u64_bytes-requires returns)

@@ -6,50 +6,50 @@ use Rattle.scripthash_layout.specs.Head.{unpack_head}
 use Rattle.scripthash_layout.proofs.head.unpack8.Statement.{statement}
 use Rattle.scripthash_layout.proofs.head.unpack8.Tie as tie
 
-returns : tie.Need-returns
+returns-then-w-eq0 : tie.Need-returns-then-w-eq0
 unfolding unpack_head refuse_if
-returns c = search (rules, lt-leb, le-leb, eq-eqb)
+returns-then-w-eq0 c = search (rules, lt-leb, le-leb, eq-eqb)
 
-returns-2 : tie.Need-returns-2
+returns-then-used-le-SH_INLINE_CAP : tie.Need-returns-then-used-le-SH_INLINE_CAP
 unfolding unpack_head refuse_if
-returns-2 c = rw c.before.match.keys2 (search (rules, lt-leb, le-leb))
+returns-then-used-le-SH_INLINE_CAP c = rw c.before.in-0.keys2 (search (rules, lt-leb, le-leb))
 
-cast-t13 : tie.Need-overflow-cast-t13
-cast-t13 c = search rules
+overflow_cast-result : tie.Need-overflow_cast-result
+overflow_cast-result c = search rules
 
-cast-t14 : tie.Need-overflow-cast-t14
-cast-t14 c = search rules
+overflow_cast-result-in-1 : tie.Need-overflow_cast-result-in-1
+overflow_cast-result-in-1 c = search rules
 
-returns-3 : tie.Need-returns-3
+returns-then-last_page-eq0 : tie.Need-returns-then-last_page-eq0
 unfolding unpack_head refuse_if
-returns-3 c = search (rules, lt-leb, le-leb, eq-eqb, ne_eqb)
+returns-then-last_page-eq0 c = search (rules, lt-leb, le-leb, eq-eqb, ne_eqb)
 
-returns-4 : tie.Need-returns-4
+returns-else-w-eq0 : tie.Need-returns-else-w-eq0
 unfolding unpack_head refuse_if
-returns-4 c = search (rules, lt-leb, le-leb, eq-eqb, ne_eqb)
+returns-else-w-eq0 c = search (rules, lt-leb, le-leb, eq-eqb, ne_eqb)
 
-returns-5 : tie.Need-returns-5
+returns-else-used-le-SH_INLINE_CAP : tie.Need-returns-else-used-le-SH_INLINE_CAP
 unfolding unpack_head refuse_if
-returns-5 c = rw c.before.match.keys2 (search (rules, lt-leb, le-leb))
+returns-else-used-le-SH_INLINE_CAP c = rw c.before.in-0.keys2 (search (rules, lt-leb, le-leb))
 
-returns-6 : tie.Need-returns-6
+returns-in-2 : tie.Need-returns-in-2
 unfolding unpack_head refuse_if
-returns-6 c = rw c.match.keys3 (search rules)
+returns-in-2 c = rw c.in-0.keys3 (search rules)
 
-returns-7 : tie.Need-returns-7
+returns-else-last_page-eq0 : tie.Need-returns-else-last_page-eq0
 unfolding unpack_head refuse_if
-returns-7 c = search (rules, lt-leb, le-leb, ne_eqb)
+returns-else-last_page-eq0 c = search (rules, lt-leb, le-leb, ne_eqb)
 
-pub unpack8-spec : {M : Type 1} → statement M
-unpack8-spec =
+pub unpack8_spec : {M : Type 1} → statement M
+unpack8_spec =
     tie.close
     (tie.spec
-    returns
-    returns-2
-    cast-t13
-    cast-t14
-    returns-3
-    returns-4
-    returns-5
-    returns-6
-    returns-7)
+    returns-then-w-eq0
+    returns-then-used-le-SH_INLINE_CAP
+    overflow_cast-result
+    overflow_cast-result-in-1
+    returns-then-last_page-eq0
+    returns-else-w-eq0
+    returns-else-used-le-SH_INLINE_CAP
+    returns-in-2
+    returns-else-last_page-eq0)

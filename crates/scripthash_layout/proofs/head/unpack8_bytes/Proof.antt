@@ -5,8 +5,8 @@ use Rattle.scripthash_layout.specs.Head.{unpack_head}
 use Rattle.scripthash_layout.proofs.head.unpack8_bytes.Statement.{statement}
 use Rattle.scripthash_layout.proofs.head.unpack8_bytes.Tie as tie
 
-word-of-requires : tie.Need-word-of-requires
-word-of-requires c κs = search rules
+word_of-requires : tie.Need-word_of-requires
+word_of-requires c κs = search rules
 
 unpack8-requires : tie.Need-unpack8-requires
 unpack8-requires c κs = search rules
@@ -14,5 +14,5 @@ unpack8-requires c κs = search rules
 returns : tie.Need-returns
 returns c = c.unpack8.ensures ∙ ap unpack_head c.before.word_of.ensures
 
-pub unpack8-bytes-spec : {M : Type 1} → statement M
-unpack8-bytes-spec = tie.close (tie.spec word-of-requires unpack8-requires returns)
+pub unpack8_bytes_spec : {M : Type 1} → statement M
+unpack8_bytes_spec = tie.close (tie.spec word_of-requires unpack8-requires returns)

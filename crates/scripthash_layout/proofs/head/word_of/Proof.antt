@@ -7,50 +7,50 @@ use Rattle.buffer.proofs.LawsOverwrite.{listed, whole_listed}
 use Rattle.scripthash_layout.proofs.head.word_of.Statement.{statement}
 use Rattle.scripthash_layout.proofs.head.word_of.Tie as tie
 
-array-read-u64-of : tie.Need-array-read-u64-of
-array-read-u64-of c = search rules
+bounds-b-0 : tie.Need-bounds-b-0
+bounds-b-0 c = search rules
 
-array-read-u64-of-2 : tie.Need-array-read-u64-of-2
-array-read-u64-of-2 c = search rules
+bounds-b-1 : tie.Need-bounds-b-1
+bounds-b-1 c = search rules
 
-array-read-u64-of-3 : tie.Need-array-read-u64-of-3
-array-read-u64-of-3 c = search rules
+bounds-b-2 : tie.Need-bounds-b-2
+bounds-b-2 c = search rules
 
-array-read-u64-of-4 : tie.Need-array-read-u64-of-4
-array-read-u64-of-4 c = search rules
+bounds-b-3 : tie.Need-bounds-b-3
+bounds-b-3 c = search rules
 
-array-read-u64-of-5 : tie.Need-array-read-u64-of-5
-array-read-u64-of-5 c = search rules
+bounds-b-4 : tie.Need-bounds-b-4
+bounds-b-4 c = search rules
 
-array-read-u64-of-6 : tie.Need-array-read-u64-of-6
-array-read-u64-of-6 c = search rules
+bounds-b-5 : tie.Need-bounds-b-5
+bounds-b-5 c = search rules
 
-array-read-u64-of-7 : tie.Need-array-read-u64-of-7
-array-read-u64-of-7 c = search rules
+bounds-b-6 : tie.Need-bounds-b-6
+bounds-b-6 c = search rules
 
-array-read-u64-of-8 : tie.Need-array-read-u64-of-8
-array-read-u64-of-8 c = search rules
+bounds-b-7 : tie.Need-bounds-b-7
+bounds-b-7 c = search rules
 
-u64-of-requires : tie.Need-u64-of-requires
-u64-of-requires c κs = search rules
+u64_of-requires : tie.Need-u64_of-requires
+u64_of-requires c κs = search rules
 
 returns : tie.Need-returns
 returns c =
     let eight : length c.before.args.t1 ≡ 8 = search rules in
-    ◌∙◌ {b = little_endian (listed 8 c.before.args.t1 0)} c.u64-of.ensures
+    ◌∙◌ {b = little_endian (listed 8 c.before.args.t1 0)} c.u64_of.ensures
     (ap little_endian (sym (whole_listed 8 c.before.args.t1 eight)))
 
-pub word-of-spec : {M : Type 1} → statement M
-word-of-spec =
+pub word_of_spec : {M : Type 1} → statement M
+word_of_spec =
     tie.close
     (tie.spec
-    array-read-u64-of
-    array-read-u64-of-2
-    array-read-u64-of-3
-    array-read-u64-of-4
-    array-read-u64-of-5
-    array-read-u64-of-6
-    array-read-u64-of-7
-    array-read-u64-of-8
-    u64-of-requires
+    bounds-b-0
+    bounds-b-1
+    bounds-b-2
+    bounds-b-3
+    bounds-b-4
+    bounds-b-5
+    bounds-b-6
+    bounds-b-7
+    u64_of-requires
     returns)

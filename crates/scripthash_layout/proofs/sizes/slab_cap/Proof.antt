@@ -6,14 +6,14 @@ use Rattle.scripthash_layout.proofs.LawsSizes.{shift_size, size_from, where_not_
 use Rattle.scripthash_layout.proofs.sizes.slab_cap.Statement.{statement}
 use Rattle.scripthash_layout.proofs.sizes.slab_cap.Tie as tie
 
-shl-result : tie.Need-overflow-shl-result
-shl-result c = search rules
+overflow_shl-result : tie.Need-overflow_shl-result
+overflow_shl-result c = search rules
 
-returns : tie.Need-returns
-returns c = shift_size 2 c.before.args.class 32 (omega arith)
+returns-then-class-lt30 : tie.Need-returns-then-class-lt30
+returns-then-class-lt30 c = shift_size 2 c.before.args.class 32 (omega arith)
 
-returns-2 : tie.Need-returns-2
-returns-2 c = sym (where_not_below 32 _ (size_from 2 c.before.args.class 32 (omega arith)))
+returns-else-class-lt30 : tie.Need-returns-else-class-lt30
+returns-else-class-lt30 c = sym (where_not_below 32 _ (size_from 2 c.before.args.class 32 (omega arith)))
 
-pub slab-cap-spec : {M : Type 1} → statement M
-slab-cap-spec = tie.close (tie.spec shl-result returns returns-2)
+pub slab_cap_spec : {M : Type 1} → statement M
+slab_cap_spec = tie.close (tie.spec overflow_shl-result returns-then-class-lt30 returns-else-class-lt30)

@@ -9,14 +9,14 @@ use Rattle.scripthash_pages.specs.Entries.{with_appended}
 use Rattle.scripthash_pages.proofs.appending.append_form.Statement.{statement}
 use Rattle.scripthash_pages.proofs.appending.append_form.Tie as tie
 
-count-one-more-requires : tie.Need-count-one-more-requires
-count-one-more-requires c κs = search rules
+count_one_more-requires : tie.Need-count_one_more-requires
+count_one_more-requires c κs = search rules
 
-put-form-requires : tie.Need-put-form-requires
-put-form-requires c κs = search rules
+put_form-requires : tie.Need-put_form-requires
+put_form-requires c κs = search rules
 
-same_length : tie.Need-same-length
-same_length c = search rules
+shape_of-page : tie.Need-shape_of-page
+shape_of-page c = search rules
 
 returns : tie.Need-returns
 unfolding with_appended
@@ -24,7 +24,7 @@ returns c =
     let put = c.before.before in
     let one = put.before.before.before.before in
     let a = one.before.before.before.args in
-    put.put-form.ensures.1 ∙ ap (λ (b : List ℕ). overwrite b a.at (shortest a.difference)) one.count-one-more.ensures
+    put.put_form.ensures.1 ∙ ap (λ (b : List ℕ). overwrite b a.at (shortest a.difference)) one.count_one_more.ensures
 
-pub append-form-spec : {M : Type 1} → statement M
-append-form-spec = tie.close (tie.spec count-one-more-requires put-form-requires same_length returns)
+pub append_form_spec : {M : Type 1} → statement M
+append_form_spec = tie.close (tie.spec count_one_more-requires put_form-requires shape_of-page returns)

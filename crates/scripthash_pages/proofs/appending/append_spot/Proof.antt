@@ -21,8 +21,8 @@ use Rattle.scripthash_pages.proofs.appending.append_spot.Statement.{statement}
 use Rattle.scripthash_pages.proofs.appending.append_spot.Tie as tie
 
 -- the page scans
-module _ (c : tie.After-known-told) where
-  abbrev called : tie.After-sh-page-stream-tail
+module _ (c : tie.In-Scanned) where
+  abbrev called : tie.After-sh_page_stream_tail-tail
   called = c.before.before.before
 
   abbrev page : List ℕ
@@ -32,13 +32,13 @@ module _ (c : tie.After-known-told) where
   fk = called.before.before.before.before.before.args.fk
 
   abbrev taken : ℕ
-  taken = c.before.tail.given.0.0
+  taken = c.before.tail-1.given.0.0
 
   abbrev last : ℕ
-  last = c.before.tail.given.0.1.0
+  last = c.before.tail-1.given.0.1.0
 
   found : (s : Scan) × (page_scan page ≡ accepted s) × (end_from 0 s ≡ record { taken = taken; last = last })
-  found = was_accepted (end_from 0) (page_scan page) (sym called.sh-page-stream-tail.ensures ∙ ap scan_answer c.before.tail.given.1)
+  found = was_accepted (end_from 0) (page_scan page) (sym called.sh_page_stream_tail-tail.ensures ∙ ap scan_answer c.before.tail-1.given.1)
 
   taken_is : found.0.taken ≡ taken
   taken_is = ap (λ (e : End). e.taken) found.2
@@ -50,85 +50,85 @@ module _ (c : tie.After-known-told) where
   ends = let e = (scan_ends page found.0 found.1).within in omega (arith, taken_is)
 
 -- the spot behind the stream
-module _ (c : tie.After-uleb128-len) where
-  abbrev at : tie.After-known-told
+module _ (c : tie.After-uleb128_len) where
+  abbrev at : tie.In-Scanned
   at = c.before.before.before
 
   abbrev off : ℕ
-  off = c.before.stream-off.result
+  off = c.before.stream_off.result
 
   abbrev difference : ℕ
   difference = fk at - last at
 
   place : off + taken at ≡ stream_off (page at) + (found at).0.taken
-  place = omega (arith, c.before.stream-off.ensures, taken_is at)
+  place = omega (arith, c.before.stream_off.ensures, taken_is at)
 
   difference_is : difference ≡ fk at - last_of (found at).0
   difference_is = ap (λ (l : ℕ). fk at - l) (sym (last_is at))
 
-  form : c.uleb128-len.result ≡ uleb_len difference
-  form = c.uleb128-len.ensures
+  form : c.uleb128_len.result ≡ uleb_len difference
+  form = c.uleb128_len.ensures
 
   ends_here : off + taken at ≤ page_size
-  ends_here = omega (arith, ends at, c.before.stream-off.ensures)
+  ends_here = omega (arith, ends at, c.before.stream_off.ensures)
 
-returns : tie.Need-returns
-returns c =
+returns-then-page-ne-SH_PAGE_SIZE : tie.Need-returns-then-page-ne-SH_PAGE_SIZE
+returns-then-page-ne-SH_PAGE_SIZE c =
     let a = c.before.before.args in
     sym (spot_length a.page.now a.fk (λ (e : length a.page.now ≡ page_size). omega arith))
 
-returns-2 : tie.Need-returns-2
-returns-2 c = let a = c.before.before.before.args in sym (spot_zero a.page.now a.fk (omega arith) (omega arith))
+returns-then-fk-eq0 : tie.Need-returns-then-fk-eq0
+returns-then-fk-eq0 c = let a = c.before.before.before.args in sym (spot_zero a.page.now a.fk (omega arith) (omega arith))
 
-returns-3 : tie.Need-returns-3
-returns-3 c =
+returns-then-fk-ge-SH_FLAG_BIT : tie.Need-returns-then-fk-ge-SH_FLAG_BIT
+returns-then-fk-ge-SH_FLAG_BIT c =
     let a = c.before.before.before.before.args in
     sym (spot_flag a.page.now a.fk (omega arith) (λ (e : a.fk ≡ 0). omega arith) (omega arith))
 
-sh-page-stream-tail-requires : tie.Need-sh-page-stream-tail-requires
-sh-page-stream-tail-requires c κs = search rules
+sh_page_stream_tail-tail-requires : tie.Need-sh_page_stream_tail-tail-requires
+sh_page_stream_tail-tail-requires c κs = search rules
 
-enum-known-tail : tie.Need-enum-known-tail
-enum-known-tail c = search rules
+enum_known-tail : tie.Need-enum_known-tail
+enum_known-tail c = search rules
 
-enum_told : tie.Need-enum-told
-enum_told c = search rules
+enum_told-1 : tie.Need-enum_told-1
+enum_told-1 c = search rules
 
 refusal-requires : tie.Need-refusal-requires
 refusal-requires c κs = search rules
 
-returns-4 : tie.Need-returns-4
-returns-4 c =
-    let told = c.before.enum_told.given in
+returns-in_default : tie.Need-returns-in_default
+returns-in_default c =
+    let told = c.before.enum_told-1.given in
     let t = c.before.before.before in
     let a = t.before.before.before.before.before.args in
-    let stop = was_refused (end_from 0) (page_scan a.page.now) (sym t.sh-page-stream-tail.ensures ∙ ap scan_answer told.1) in
+    let stop = was_refused (end_from 0) (page_scan a.page.now) (sym t.sh_page_stream_tail-tail.ensures ∙ ap scan_answer told.1) in
     ap refused (c.refusal.ensures ∙ ap (λ (g : ScanStream). refusal_of (scan_answer g)) told.1)
     ∙ sym (spot_stop a.page.now a.fk (omega arith) (λ (e : a.fk ≡ 0). omega arith) (omega arith) stop)
 
-returns-5 : tie.Need-returns-5
-returns-5 c =
+returns-then-fk-last : tie.Need-returns-then-fk-last
+returns-then-fk-last c =
     let k = c.before in
     sym (spot_low (page k) (fk k) (omega arith) (λ (e : fk k ≡ 0). omega arith) (omega arith) (found k).0 (found k).1
     (omega (arith, last_is k)))
 
-stream-off-requires : tie.Need-stream-off-requires
-stream-off-requires c κs = search rules
+stream_off-requires : tie.Need-stream_off-requires
+stream_off-requires c κs = search rules
 
-add_at : tie.Need-overflow-add-at
-add_at c = omega (arith, ends c.before.before, c.stream-off.ensures)
+overflow_add-at : tie.Need-overflow_add-at
+overflow_add-at c = omega (arith, ends c.before.before, c.stream_off.ensures)
 
-sub-difference : tie.Need-overflow-sub-difference
-sub-difference c = search rules
+overflow_sub-difference : tie.Need-overflow_sub-difference
+overflow_sub-difference c = search rules
 
-uleb128-len-requires : tie.Need-uleb128-len-requires
-uleb128-len-requires c κs = search rules
+uleb128_len-requires : tie.Need-uleb128_len-requires
+uleb128_len-requires c κs = search rules
 
-add-if5 : tie.Need-overflow-add-if5
-add-if5 c = omega (arith, ends_here c, form c, len_at_most (difference c) (omega arith))
+overflow_add-at-2 : tie.Need-overflow_add-at-2
+overflow_add-at-2 c = omega (arith, ends_here c, form c, len_at_most (difference c) (omega arith))
 
-returns-6 : tie.Need-returns-6
-returns-6 c =
+returns-then-at-uleb128_len-gt-SH_PAGE_SIZE : tie.Need-returns-then-at-uleb128_len-gt-SH_PAGE_SIZE
+returns-then-at-uleb128_len-gt-SH_PAGE_SIZE c =
     let d = c.before in
     let k = at d in
     let high = spot_high (page k) (fk k) (omega arith) (λ (e : fk k ≡ 0). omega arith) (omega arith) (found k).0 (found k).1
@@ -136,8 +136,8 @@ returns-6 c =
     sym (high ∙ ap accepted
     (spot_full (page k) (fk k) (found k).0 (off d + taken k) (difference d) (place d) (difference_is d) (omega (arith, form d))))
 
-returns-7 : tie.Need-returns-7
-returns-7 c =
+returns : tie.Need-returns
+returns c =
     let d = c.before in
     let k = at d in
     let high = spot_high (page k) (fk k) (omega arith) (λ (e : fk k ≡ 0). omega arith) (omega arith) (found k).0 (found k).1
@@ -145,23 +145,23 @@ returns-7 c =
     sym (high ∙ ap accepted
     (spot_room (page k) (fk k) (found k).0 (off d + taken k) (difference d) (place d) (difference_is d) (omega (arith, form d))))
 
-pub append-spot-spec : {M : Type 1} → statement M
-append-spot-spec =
+pub append_spot_spec : {M : Type 1} → statement M
+append_spot_spec =
     tie.close
     (tie.spec
-    returns
-    returns-2
-    returns-3
-    sh-page-stream-tail-requires
-    enum-known-tail
-    enum_told
+    returns-then-page-ne-SH_PAGE_SIZE
+    returns-then-fk-eq0
+    returns-then-fk-ge-SH_FLAG_BIT
+    sh_page_stream_tail-tail-requires
+    enum_known-tail
+    enum_told-1
     refusal-requires
-    returns-4
-    returns-5
-    stream-off-requires
-    add_at
-    sub-difference
-    uleb128-len-requires
-    add-if5
-    returns-6
-    returns-7)
+    returns-in_default
+    returns-then-fk-last
+    stream_off-requires
+    overflow_add-at
+    overflow_sub-difference
+    uleb128_len-requires
+    overflow_add-at-2
+    returns-then-at-uleb128_len-gt-SH_PAGE_SIZE
+    returns)

@@ -7,49 +7,49 @@ use Rattle.scripthash_pages.proofs.LawsAppend.{count_read, one_more_is, one_more
 use Rattle.scripthash_pages.proofs.appending.count_one_more.Statement.{statement}
 use Rattle.scripthash_pages.proofs.appending.count_one_more.Tie as tie
 
-get-u16-requires : tie.Need-get-u16-requires
-get-u16-requires c κs = search rules
+get_u16-count-requires : tie.Need-get_u16-count-requires
+get_u16-count-requires c κs = search rules
 
-slice-read-kept-version : tie.Need-slice-read-kept-version
-slice-read-kept-version c = search rules
+bounds-page-0 : tie.Need-bounds-page-0
+bounds-page-0 c = search rules
 
-kept-version-requires : tie.Need-kept-version-requires
-kept-version-requires c κs = search rules
+kept_version-requires : tie.Need-kept_version-requires
+kept_version-requires c κs = search rules
 
-slice-write-page : tie.Need-slice-write-page
-slice-write-page c = search rules
+bounds-page-0-2 : tie.Need-bounds-page-0-2
+bounds-page-0-2 c = search rules
 
-add-put-u16 : tie.Need-overflow-add-put-u16
-add-put-u16 c =
+overflow_add-count : tie.Need-overflow_add-count
+overflow_add-count c =
     let start = c.before.before.before.before.before.before in
-    omega (arith, c.before.before.before.get-u16.ensures, count_read start.args.page.now, start.requires.1)
+    omega (arith, c.before.before.before.get_u16-count.ensures, count_read start.args.page.now, start.requires.1)
 
-put-u16-requires : tie.Need-put-u16-requires
-put-u16-requires c κs = search rules
+put_u16-requires : tie.Need-put_u16-requires
+put_u16-requires c κs = search rules
 
-same_length : tie.Need-same-length
-same_length c =
+shape_of-page : tie.Need-shape_of-page
+shape_of-page c =
     let k = c.before.before.before.before in
     let start = k.before.before.before.before.before in
-    ap length c.before.before.put-u16.ensures ∙ one_more_length start.args.page.now k.kept-version.result _ start.requires.0
+    ap length c.before.before.put_u16.ensures ∙ one_more_length start.args.page.now k.kept_version.result _ start.requires.0
 
 returns : tie.Need-returns
 returns c =
     let k = c.before.before.before.before in
     let start = k.before.before.before.before.before in
-    c.before.before.put-u16.ensures
-    ∙ one_more_is start.args.page.now k.kept-version.result k.before.before.get-u16.result start.requires.0
-    k.kept-version.ensures k.before.before.get-u16.ensures
+    c.before.before.put_u16.ensures
+    ∙ one_more_is start.args.page.now k.kept_version.result k.before.before.get_u16-count.result start.requires.0
+    k.kept_version.ensures k.before.before.get_u16-count.ensures
 
-pub count-one-more-spec : {M : Type 1} → statement M
-count-one-more-spec =
+pub count_one_more_spec : {M : Type 1} → statement M
+count_one_more_spec =
     tie.close
     (tie.spec
-    get-u16-requires
-    slice-read-kept-version
-    kept-version-requires
-    slice-write-page
-    add-put-u16
-    put-u16-requires
-    same_length
+    get_u16-count-requires
+    bounds-page-0
+    kept_version-requires
+    bounds-page-0-2
+    overflow_add-count
+    put_u16-requires
+    shape_of-page
     returns)

@@ -15,7 +15,7 @@ use Rattle.scripthash_pages.proofs.appending.sh_page_try_append.Statement.{state
 use Rattle.scripthash_pages.proofs.appending.sh_page_try_append.Tie as tie
 
 -- the number has a spot
-module _ (c : tie.After-known-told) where
+module _ (c : tie.In-Behind) where
   abbrev page : List ℕ
   page = c.before.before.before.before.before.before.args.page.now
 
@@ -23,10 +23,10 @@ module _ (c : tie.After-known-told) where
   fk = c.before.before.before.before.before.before.args.fk
 
   abbrev spot : Spot
-  spot = record { at = c.before.spot.given.0.0; difference = c.before.spot.given.0.1.0 }
+  spot = record { at = c.before.spot-1.given.0.0; difference = c.before.spot-1.given.0.1.0 }
 
   is : append_spot page fk ≡ accepted (some spot)
-  is = sym c.before.before.before.append-spot.ensures ∙ ap spot_answer c.before.spot.given.1
+  is = sym c.before.before.before.append_spot-spot.ensures ∙ ap spot_answer c.before.spot-1.given.1
 
   roomy : Roomy page fk spot
   roomy = spot_accepted page fk spot is
@@ -34,67 +34,67 @@ module _ (c : tie.After-known-told) where
   ends : Ends page roomy.scanned
   ends = scan_ends page roomy.scanned roomy.is
 
-append-spot-requires : tie.Need-append-spot-requires
-append-spot-requires c κs = search rules
+append_spot-spot-requires : tie.Need-append_spot-spot-requires
+append_spot-spot-requires c κs = search rules
 
-enum-known-spot : tie.Need-enum-known-spot
-enum-known-spot c = search rules
+enum_known-spot : tie.Need-enum_known-spot
+enum_known-spot c = search rules
 
-append-form-requires : tie.Need-append-form-requires
-append-form-requires c κs =
+append_form-requires : tie.Need-append_form-requires
+append_form-requires c κs =
     let k = c.before in
     (omega (arith, (ends k).long), omega (arith, (ends k).few), omega (arith, (roomy k).ranges, (ends k).long))
 
-enum_told : tie.Need-enum-told
-enum_told c = search rules
+enum_told-1 : tie.Need-enum_told-1
+enum_told-1 c = search rules
 
-enum-known-spot-2 : tie.Need-enum-known-spot-2
-enum-known-spot-2 c = search rules
+enum_known-spot-in-Refused-1 : tie.Need-enum_known-spot-in-Refused-1
+enum_known-spot-in-Refused-1 c = search rules
 
-same_length : tie.Need-same-length
-same_length c = search rules
+shape_of-page-in-Behind : tie.Need-shape_of-page-in-Behind
+shape_of-page-in-Behind c = search rules
 
-returns : tie.Need-returns
-returns c =
+returns-in-Behind : tie.Need-returns-in-Behind
+returns-in-Behind c =
     let k = c.before.before.before.before in (
       sym (answered_yes has_spot (append_spot (page k) (fk k)) (is k)),
-      c.before.before.append-form.ensures ∙ sym (after_append_yes (page k) (append_spot (page k) (fk k)) (spot k) (is k)),
+      c.before.before.append_form.ensures ∙ sym (after_append_yes (page k) (append_spot (page k) (fk k)) (spot k) (is k)),
     )
 
-same-length-2 : tie.Need-same-length-2
-same-length-2 c = search rules
+shape_of-page-in-Nowhere : tie.Need-shape_of-page-in-Nowhere
+shape_of-page-in-Nowhere c = search rules
 
-returns-2 : tie.Need-returns-2
-returns-2 c =
+returns-in-Nowhere : tie.Need-returns-in-Nowhere
+returns-in-Nowhere c =
     let a = c.before.before.before.before.before.args in
-    let full = sym c.before.before.append-spot.ensures ∙ ap spot_answer c.enum_told.given.1 in (
+    let full = sym c.before.before.append_spot-spot.ensures ∙ ap spot_answer c.enum_told-1.given.1 in (
       sym (answered_yes has_spot (append_spot a.page.now a.fk) full),
       sym (after_append_full a.page.now (append_spot a.page.now a.fk) full),
     )
 
-same-length-3 : tie.Need-same-length-3
-same-length-3 c = search rules
+shape_of-page-in-Refused : tie.Need-shape_of-page-in-Refused
+shape_of-page-in-Refused c = search rules
 
-returns-3 : tie.Need-returns-3
-returns-3 c =
+returns-in-Refused : tie.Need-returns-in-Refused
+returns-in-Refused c =
     let a = c.before.before.before.before.before.before.args in
-    let stop = sym c.before.before.before.append-spot.ensures ∙ ap spot_answer c.before.spot2.given.1 in (
+    let stop = sym c.before.before.before.append_spot-spot.ensures ∙ ap spot_answer c.before.spot-in-Refused-1.given.1 in (
       sym (answered_no has_spot (append_spot a.page.now a.fk) stop),
       sym (after_append_no a.page.now (append_spot a.page.now a.fk) stop),
     )
 
-pub sh-page-try-append-spec : {M : Type 1} → statement M
-sh-page-try-append-spec =
+pub sh_page_try_append_spec : {M : Type 1} → statement M
+sh_page_try_append_spec =
     tie.close
     (tie.spec
-    append-spot-requires
-    enum-known-spot
-    append-form-requires
-    enum_told
-    enum-known-spot-2
-    same_length
-    returns
-    same-length-2
-    returns-2
-    same-length-3
-    returns-3)
+    append_spot-spot-requires
+    enum_known-spot
+    append_form-requires
+    enum_told-1
+    enum_known-spot-in-Refused-1
+    shape_of-page-in-Behind
+    returns-in-Behind
+    shape_of-page-in-Nowhere
+    returns-in-Nowhere
+    shape_of-page-in-Refused
+    returns-in-Refused)

@@ -20,7 +20,7 @@ use Rattle.scripthash_pages.proofs.appending.sh_page_write_stream.Statement.{sta
 use Rattle.scripthash_pages.proofs.appending.sh_page_write_stream.Tie as tie
 
 -- the stream's start
-module _ (c : tie.After-stream-off) where
+module _ (c : tie.After-stream_off-off) where
   abbrev start : tie.Start
   start = c.before.before.before.before.before.before
 
@@ -31,10 +31,10 @@ module _ (c : tie.After-stream-off) where
   fks = start.args.fks.now
 
   abbrev off : ℕ
-  off = c.stream-off.result
+  off = c.stream_off-off.result
 
   off_is : off ≡ stream_off page
-  off_is = c.stream-off.ensures
+  off_is = c.stream_off-off.ensures
 
   whole : length page ≡ page_size
   whole = omega arith
@@ -46,108 +46,108 @@ module _ (c : tie.After-stream-off) where
   as_stream = written_as_stream page fks whole (omega arith)
 
 -- the stream's encoder was lent the part from there on
-module _ (c : tie.After-encode-fk-delta-stream-into) where
-  abbrev at : tie.After-stream-off
+module _ (c : tie.After-encode_fk_delta_stream_into-got) where
+  abbrev at : tie.After-stream_off-off
   at = c.before.before
 
   abbrev out : List ℕ
-  out = c.encode-fk-delta-stream-into.new.0
+  out = c.encode_fk_delta_stream_into-got.new.0
 
   cap : length (page at) - off at ≡ stream_cap (page at)
   cap = omega (arith, off_is at, whole at)
 
-  answer : encode_stream (length (page at) - off at) (fks at) ≡ bytes_answer c.encode-fk-delta-stream-into.result
+  answer : encode_stream (length (page at) - off at) (fks at) ≡ bytes_answer c.encode_fk_delta_stream_into-got.result
   answer =
-      sym (c.encode-fk-delta-stream-into.ensures.0
+      sym (c.encode_fk_delta_stream_into-got.ensures.0
       ∙ ap (λ (r : ℕ). encode_stream r (fks at)) (length_lent (page at) (off at) (within at)))
 
-  told : write_stream (page at) (fks at) ≡ bytes_answer c.encode-fk-delta-stream-into.result
+  told : write_stream (page at) (fks at) ≡ bytes_answer c.encode_fk_delta_stream_into-got.result
   told = as_stream at ∙ ap (λ (r : ℕ). encode_stream r (fks at)) (sym cap) ∙ answer
 
-returns : tie.Need-returns
-returns c =
+returns-then-page-ne-SH_PAGE_SIZE : tie.Need-returns-then-page-ne-SH_PAGE_SIZE
+returns-then-page-ne-SH_PAGE_SIZE c =
     let a = c.before.before.before.args in
     let other = written_length a.page.now a.fks.now (λ (e : length a.page.now ≡ page_size). omega arith) in
     (sym other, sym (after_written_no a.page.now a.fks.now (write_stream a.page.now a.fks.now) other))
 
-returns-2 : tie.Need-returns-2
-returns-2 c =
+returns-then-fks-gt-MAX_OFFERED : tie.Need-returns-then-fks-gt-MAX_OFFERED
+returns-then-fks-gt-MAX_OFFERED c =
     let a = c.before.before.before.before.args in
     let many = written_many a.page.now a.fks.now (omega arith) (omega arith) in
     (sym many, sym (after_written_no a.page.now a.fks.now (write_stream a.page.now a.fks.now) many))
 
-stream-off-requires : tie.Need-stream-off-requires
-stream-off-requires c κs = search rules
+stream_off-off-requires : tie.Need-stream_off-off-requires
+stream_off-off-requires c κs = search rules
 
-sub-encode-fk-delta-stream-into : tie.Need-overflow-sub-encode-fk-delta-stream-into
-sub-encode-fk-delta-stream-into c = within c
+slice_bounds-encode_fk_delta_stream_into-count : tie.Need-slice_bounds-encode_fk_delta_stream_into-count
+slice_bounds-encode_fk_delta_stream_into-count c = within c
 
-part-encode-fk-delta-stream-into-start : tie.Need-slice-bounds-encode-fk-delta-stream-into-start
-part-encode-fk-delta-stream-into-start c = within c
+slice_bounds-encode_fk_delta_stream_into-start : tie.Need-slice_bounds-encode_fk_delta_stream_into-start
+slice_bounds-encode_fk_delta_stream_into-start c = within c
 
-part-encode-fk-delta-stream-into-end : tie.Need-slice-bounds-encode-fk-delta-stream-into-end
-part-encode-fk-delta-stream-into-end c = search rules
+slice_bounds-encode_fk_delta_stream_into-end : tie.Need-slice_bounds-encode_fk_delta_stream_into-end
+slice_bounds-encode_fk_delta_stream_into-end c = search rules
 
-encode-fk-delta-stream-into-requires : tie.Need-encode-fk-delta-stream-into-requires
-encode-fk-delta-stream-into-requires c κs = search rules
+encode_fk_delta_stream_into-got-requires : tie.Need-encode_fk_delta_stream_into-got-requires
+encode_fk_delta_stream_into-got-requires c κs = search rules
 
-enum-known-got : tie.Need-enum-known-got
-enum-known-got c = search rules
+enum_known-got : tie.Need-enum_known-got
+enum_known-got c = search rules
 
-enum_told : tie.Need-enum-told
-enum_told c = search rules
+enum_told-1 : tie.Need-enum_told-1
+enum_told-1 c = search rules
 
-same_length : tie.Need-same-length
-same_length c = search rules
+shape_of-page-in_default : tie.Need-shape_of-page-in_default
+shape_of-page-in_default c = search rules
 
-returns-3 : tie.Need-returns-3
-returns-3 c =
+returns-in_default : tie.Need-returns-in_default
+returns-in_default c =
     let d = c.before.before.before.before in
     let o = at d in
-    let is = ap bytes_answer c.enum_told.given.1 in (
+    let is = ap bytes_answer c.enum_told-1.given.1 in (
       is ∙ sym (told d ∙ is),
-      lent_no (page o) (off o) (within o) (fks o) (out d) d.encode-fk-delta-stream-into.ensures.1 (answer d ∙ is)
+      lent_no (page o) (off o) (within o) (fks o) (out d) d.encode_fk_delta_stream_into-got.ensures.1 (answer d ∙ is)
           ∙ sym (after_written_no (page o) (fks o) (write_stream (page o) (fks o)) (told d ∙ is)),
     )
 
-cast-put-u16 : tie.Need-overflow-cast-put-u16
-cast-put-u16 c = search rules
+overflow_cast-fks : tie.Need-overflow_cast-fks
+overflow_cast-fks c = search rules
 
-put-u16-requires : tie.Need-put-u16-requires
-put-u16-requires c κs = search rules
+put_u16-requires : tie.Need-put_u16-requires
+put_u16-requires c κs = search rules
 
-same-length-2 : tie.Need-same-length-2
-same-length-2 c = search rules
+shape_of-page : tie.Need-shape_of-page
+shape_of-page c = search rules
 
-returns-4 : tie.Need-returns-4
-returns-4 c =
+returns : tie.Need-returns
+returns c =
     let k = c.before.before.before.before in
     let d = k.before.before.before.before.before in
     let o = at d in
-    let is = ap bytes_answer k.before.got.given.1 in (
+    let is = ap bytes_answer k.before.got-1.given.1 in (
       sym (told d ∙ is),
-      c.before.before.put-u16.ensures
+      c.before.before.put_u16.ensures
           ∙ ap (λ (b : List ℕ). overwrite b 1 (bytes_of 2 (length (fks o))))
-          (lent_yes (page o) (off o) (within o) (fks o) (out d) d.encode-fk-delta-stream-into.ensures.1 (answer d ∙ is))
+          (lent_yes (page o) (off o) (within o) (fks o) (out d) d.encode_fk_delta_stream_into-got.ensures.1 (answer d ∙ is))
           ∙ after_written_yes (page o) (fks o) (write_stream (page o) (fks o)) (off o) (off_is o) (told d ∙ is),
     )
 
-pub sh-page-write-stream-spec : {M : Type 1} → statement M
-sh-page-write-stream-spec =
+pub sh_page_write_stream_spec : {M : Type 1} → statement M
+sh_page_write_stream_spec =
     tie.close
     (tie.spec
-    returns
-    returns-2
-    stream-off-requires
-    sub-encode-fk-delta-stream-into
-    part-encode-fk-delta-stream-into-start
-    part-encode-fk-delta-stream-into-end
-    encode-fk-delta-stream-into-requires
-    enum-known-got
-    enum_told
-    same_length
-    returns-3
-    cast-put-u16
-    put-u16-requires
-    same-length-2
-    returns-4)
+    returns-then-page-ne-SH_PAGE_SIZE
+    returns-then-fks-gt-MAX_OFFERED
+    stream_off-off-requires
+    slice_bounds-encode_fk_delta_stream_into-count
+    slice_bounds-encode_fk_delta_stream_into-start
+    slice_bounds-encode_fk_delta_stream_into-end
+    encode_fk_delta_stream_into-got-requires
+    enum_known-got
+    enum_told-1
+    shape_of-page-in_default
+    returns-in_default
+    overflow_cast-fks
+    put_u16-requires
+    shape_of-page
+    returns)

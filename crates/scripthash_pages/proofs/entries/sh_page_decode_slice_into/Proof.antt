@@ -17,8 +17,8 @@ use Rattle.scripthash_pages.proofs.entries.sh_page_decode_slice_into.Statement.{
 use Rattle.scripthash_pages.proofs.entries.sh_page_decode_slice_into.Tie as tie
 
 -- the numbers were read
-module _ (c : tie.After-known-told) where
-  abbrev called : tie.After-sh-page-entries-into
+module _ (c : tie.In-Entries) where
+  abbrev called : tie.After-sh_page_entries_into-got
   called = c.before.before.before.before.before
 
   abbrev page : List ℕ
@@ -28,15 +28,15 @@ module _ (c : tie.After-known-told) where
   entries = page_entries (length called.before.before.before.before.args.out.now) page
 
   abbrev count : ℕ
-  count = c.before.got.given.0.0
+  count = c.before.got-1.given.0.0
 
   abbrev padded : ℕ
-  padded = c.before.got.given.0.1.0
+  padded = c.before.got-1.given.0.1.0
 
   found : (s : Scan) × (entries ≡ accepted s) × (entries_read_of page s ≡ record { count = count; padded = padded })
   found =
       was_accepted (entries_read_of page) entries
-      (sym called.sh-page-entries-into.ensures.0 ∙ ap entries_answer c.before.got.given.1)
+      (sym called.sh_page_entries_into-got.ensures.0 ∙ ap entries_answer c.before.got-1.given.1)
 
   long : length page ≡ page_size
   long = entries_long (length called.before.before.before.before.args.out.now) page found.0 found.1
@@ -49,45 +49,45 @@ module _ (c : tie.After-known-told) where
       ap accepted (sym (read_of page found.0 count next padded counted e counts))
       ∙ sym (answered_yes (page_read_of page) entries found.1)
 
-sh-page-entries-into-requires : tie.Need-sh-page-entries-into-requires
-sh-page-entries-into-requires c κs = search rules
+sh_page_entries_into-got-requires : tie.Need-sh_page_entries_into-got-requires
+sh_page_entries_into-got-requires c κs = search rules
 
-enum-known-got : tie.Need-enum-known-got
-enum-known-got c = search rules
+enum_known-got : tie.Need-enum_known-got
+enum_known-got c = search rules
 
-enum_told : tie.Need-enum-told
-enum_told c = search rules
+enum_told-1 : tie.Need-enum_told-1
+enum_told-1 c = search rules
 
 refusal-requires : tie.Need-refusal-requires
 refusal-requires c κs = search rules
 
-same_length : tie.Need-same-length
-same_length c = search rules
+shape_of-out-in_default : tie.Need-shape_of-out-in_default
+shape_of-out-in_default c = search rules
 
-returns : tie.Need-returns
-returns c =
-    let told = c.before.enum_told.given in
+returns-in_default : tie.Need-returns-in_default
+returns-in_default c =
+    let told = c.before.enum_told-1.given in
     let d = c.before.before.before.before.before in
     let a = d.before.before.before.before.args in
     let stop = was_refused (entries_read_of a.page.now) (page_entries (length a.out.now) a.page.now)
-    (sym d.sh-page-entries-into.ensures.0
+    (sym d.sh_page_entries_into-got.ensures.0
     ∙ ap entries_answer told.1) in (
       ap refused (c.refusal.ensures ∙ ap (λ (g : PageEntries). refusal_of (entries_answer g)) told.1)
           ∙ sym (answered_no (page_read_of a.page.now) (page_entries (length a.out.now) a.page.now) stop),
-      d.sh-page-entries-into.ensures.1,
+      d.sh_page_entries_into-got.ensures.1,
     )
 
-next-off-requires : tie.Need-next-off-requires
-next-off-requires c κs = search (rules, long c)
+next_off-requires : tie.Need-next_off-requires
+next_off-requires c κs = search (rules, long c)
 
-same-length-2 : tie.Need-same-length-2
-same-length-2 c = search rules
+shape_of-out : tie.Need-shape_of-out
+shape_of-out c = search rules
 
-returns-2 : tie.Need-returns-2
-returns-2 c = let d = c.before in (told d _ (sym c.next-off.ensures), (called d).sh-page-entries-into.ensures.1)
+returns : tie.Need-returns
+returns c = let d = c.before in (told d _ (sym c.next_off.ensures), (called d).sh_page_entries_into-got.ensures.1)
 
-pub sh-page-decode-slice-into-spec : {M : Type 1} → statement M
-sh-page-decode-slice-into-spec =
+pub sh_page_decode_slice_into_spec : {M : Type 1} → statement M
+sh_page_decode_slice_into_spec =
     tie.close
-    (tie.spec sh-page-entries-into-requires enum-known-got enum_told refusal-requires same_length returns next-off-requires same-length-2
-    returns-2)
+    (tie.spec sh_page_entries_into-got-requires enum_known-got enum_told-1 refusal-requires shape_of-out-in_default returns-in_default next_off-requires shape_of-out
+    returns)

@@ -21,22 +21,22 @@ use Rattle.scripthash_pages.proofs.entries.sh_page_entries_into.Statement.{state
 use Rattle.scripthash_pages.proofs.entries.sh_page_entries_into.Tie as tie
 
 -- the stream has a place
-module _ (c : tie.After-known-told) where
+module _ (c : tie.In-At) where
   abbrev page : List ℕ
   page = c.before.before.before.before.before.before.args.page.now
 
   abbrev place : StreamAt
-  place = record { off = c.before.place.given.0.0; count = c.before.place.given.0.1.0 }
+  place = record { off = c.before.place-1.given.0.0; count = c.before.place-1.given.0.1.0 }
 
   is : stream_place page ≡ accepted place
-  is = sym c.before.before.before.stream-place.ensures ∙ ap stream_place_answer c.before.place.given.1
+  is = sym c.before.before.before.stream_place-place.ensures ∙ ap stream_place_answer c.before.place-1.given.1
 
-  within : c.before.place.given.0.0 ≤ length page
+  within : c.before.place-1.given.0.0 ≤ length page
   within = let placed = place_accepted page place is in omega arith
 
 -- the decoder was lent the part from there on
-module _ (c : tie.After-decode-fk-delta-stream-into) where
-  abbrev at : tie.After-known-told
+module _ (c : tie.After-decode_fk_delta_stream_into-got) where
+  abbrev at : tie.In-At
   at = c.before.before.before
 
   abbrev out : List ℕ
@@ -52,79 +52,79 @@ module _ (c : tie.After-decode-fk-delta-stream-into) where
   same = ap (decode_stream (length out) (place at).count) (part_to_end (page at) (place at).off)
       ∙ sym (entries_yes (length out) (page at) (place at) (is at))
 
-  answer : stream_read_answer c.decode-fk-delta-stream-into.result ≡ answered (stream_told (place at).count rest) decoded
-  answer = c.decode-fk-delta-stream-into.ensures.0 ∙ ap (answered (stream_told (place at).count rest)) same
+  answer : stream_read_answer c.decode_fk_delta_stream_into-got.result ≡ answered (stream_told (place at).count rest) decoded
+  answer = c.decode_fk_delta_stream_into-got.ensures.0 ∙ ap (answered (stream_told (place at).count rest)) same
 
   counts : padded_in (place at).count rest ≡ page_padded (page at)
   counts = ap (padded_in (place at).count) (part_to_end (page at) (place at).off) ∙ padded_at (page at) (place at) (is at)
 
-  list : c.decode-fk-delta-stream-into.new.1.1.0 ≡ after_decode out decoded
-  list = c.decode-fk-delta-stream-into.ensures.1 ∙ ap (after_decode out) same
+  list : c.decode_fk_delta_stream_into-got.new.1.1.0 ≡ after_decode out decoded
+  list = c.decode_fk_delta_stream_into-got.ensures.1 ∙ ap (after_decode out) same
 
-stream-place-requires : tie.Need-stream-place-requires
-stream-place-requires c κs = search rules
+stream_place-place-requires : tie.Need-stream_place-place-requires
+stream_place-place-requires c κs = search rules
 
-enum-known-place : tie.Need-enum-known-place
-enum-known-place c = search rules
+enum_known-place : tie.Need-enum_known-place
+enum_known-place c = search rules
 
-enum_told : tie.Need-enum-told
-enum_told c = search rules
+enum_told-1 : tie.Need-enum_told-1
+enum_told-1 c = search rules
 
 refusal-requires : tie.Need-refusal-requires
 refusal-requires c κs = search rules
 
-returns : tie.Need-returns
-returns c =
-    let told = c.before.enum_told.given in
+returns-in_default : tie.Need-returns-in_default
+returns-in_default c =
+    let told = c.before.enum_told-1.given in
     let a = c.before.before.before.before.before.before.args in
-    let stop = entries_no (length a.out.now) a.page.now (sym c.before.before.before.stream-place.ensures
+    let stop = entries_no (length a.out.now) a.page.now (sym c.before.before.before.stream_place-place.ensures
     ∙ ap stream_place_answer told.1) in (
       ap refused (c.refusal.ensures ∙ ap (λ (g : StreamPlace). refusal_of (stream_place_answer g)) told.1)
           ∙ sym (answered_no (entries_read_of a.page.now) (page_entries (length a.out.now) a.page.now) stop),
       sym (after_refused a.out.now (page_entries (length a.out.now) a.page.now) stop),
     )
 
-sub-decode-fk-delta-stream-into : tie.Need-overflow-sub-decode-fk-delta-stream-into
-sub-decode-fk-delta-stream-into c = within c
+slice_bounds-decode_fk_delta_stream_into-count : tie.Need-slice_bounds-decode_fk_delta_stream_into-count
+slice_bounds-decode_fk_delta_stream_into-count c = within c
 
-part-decode-fk-delta-stream-into-start : tie.Need-slice-bounds-decode-fk-delta-stream-into-start
-part-decode-fk-delta-stream-into-start c = within c
+slice_bounds-decode_fk_delta_stream_into-start : tie.Need-slice_bounds-decode_fk_delta_stream_into-start
+slice_bounds-decode_fk_delta_stream_into-start c = within c
 
-part-decode-fk-delta-stream-into-end : tie.Need-slice-bounds-decode-fk-delta-stream-into-end
-part-decode-fk-delta-stream-into-end c = search rules
+slice_bounds-decode_fk_delta_stream_into-end : tie.Need-slice_bounds-decode_fk_delta_stream_into-end
+slice_bounds-decode_fk_delta_stream_into-end c = search rules
 
-decode-fk-delta-stream-into-requires : tie.Need-decode-fk-delta-stream-into-requires
-decode-fk-delta-stream-into-requires c κs = search rules
+decode_fk_delta_stream_into-got-requires : tie.Need-decode_fk_delta_stream_into-got-requires
+decode_fk_delta_stream_into-got-requires c κs = search rules
 
-enum-known-got : tie.Need-enum-known-got
-enum-known-got c = search rules
+enum_known-got : tie.Need-enum_known-got
+enum_known-got c = search rules
 
-enum-told-2 : tie.Need-enum-told-2
-enum-told-2 c = search rules
+enum_told-in_default-got : tie.Need-enum_told-in_default-got
+enum_told-in_default-got c = search rules
 
-refusal-requires-2 : tie.Need-refusal-requires-2
-refusal-requires-2 c κs = search rules
+refusal-requires-in_default-got : tie.Need-refusal-requires-in_default-got
+refusal-requires-in_default-got c κs = search rules
 
-same_length : tie.Need-same-length
-same_length c = search rules
+shape_of-out-in_default-got : tie.Need-shape_of-out-in_default-got
+shape_of-out-in_default-got c = search rules
 
-returns-2 : tie.Need-returns-2
-returns-2 c =
+returns-in_default-got : tie.Need-returns-in_default-got
+returns-in_default-got c =
     let d = c.before.before.before.before.before in
-    let told = c.before.enum-told2.given in
+    let told = c.before.enum_told-in_default-got-1.given in
     let stop = was_refused (stream_told (place (at d)).count (rest d)) (decoded d) (sym (answer d) ∙ ap stream_read_answer told.1) in (
-      ap refused (c.refusal2.ensures ∙ ap (λ (g : StreamRead). refusal_of (stream_read_answer g)) told.1)
+      ap refused (c.refusal-in_default-got.ensures ∙ ap (λ (g : StreamRead). refusal_of (stream_read_answer g)) told.1)
           ∙ sym (answered_no (entries_read_of (page (at d))) (decoded d) stop),
       list d,
     )
 
-same-length-2 : tie.Need-same-length-2
-same-length-2 c = search rules
+shape_of-out : tie.Need-shape_of-out
+shape_of-out c = search rules
 
-returns-3 : tie.Need-returns-3
-returns-3 c =
+returns : tie.Need-returns
+returns c =
     let d = c.before.before.before.before.before in
-    let told = c.before.got.given in
+    let told = c.before.got-1.given in
     let got = was_accepted (stream_told (place (at d)).count (rest d)) (decoded d) (sym (answer d) ∙ ap stream_read_answer told.1) in
     let known = scan_accepted 0 _ _ _ (decode_accepted (length (out d)) _ _ (same d ∙ got.1)).0 in
     let counted = sym (ap (λ (t : StreamTold). t.padded) got.2) ∙ counts d in (
@@ -134,23 +134,23 @@ returns-3 c =
       list d,
     )
 
-pub sh-page-entries-into-spec : {M : Type 1} → statement M
-sh-page-entries-into-spec =
+pub sh_page_entries_into_spec : {M : Type 1} → statement M
+sh_page_entries_into_spec =
     tie.close
     (tie.spec
-    stream-place-requires
-    enum-known-place
-    enum_told
+    stream_place-place-requires
+    enum_known-place
+    enum_told-1
     refusal-requires
-    returns
-    sub-decode-fk-delta-stream-into
-    part-decode-fk-delta-stream-into-start
-    part-decode-fk-delta-stream-into-end
-    decode-fk-delta-stream-into-requires
-    enum-known-got
-    enum-told-2
-    refusal-requires-2
-    same_length
-    returns-2
-    same-length-2
-    returns-3)
+    returns-in_default
+    slice_bounds-decode_fk_delta_stream_into-count
+    slice_bounds-decode_fk_delta_stream_into-start
+    slice_bounds-decode_fk_delta_stream_into-end
+    decode_fk_delta_stream_into-got-requires
+    enum_known-got
+    enum_told-in_default-got
+    refusal-requires-in_default-got
+    shape_of-out-in_default-got
+    returns-in_default-got
+    shape_of-out
+    returns)

@@ -17,69 +17,69 @@ use Rattle.scripthash_pages.proofs.entries.sh_page_stream_tail.Statement.{statem
 use Rattle.scripthash_pages.proofs.entries.sh_page_stream_tail.Tie as tie
 
 -- the stream has a place
-module _ (c : tie.After-known-told) where
+module _ (c : tie.In-At) where
   abbrev page : List ℕ
   page = c.before.before.before.before.before.args.page.now
 
   abbrev place : StreamAt
-  place = record { off = c.before.place.given.0.0; count = c.before.place.given.0.1.0 }
+  place = record { off = c.before.place-1.given.0.0; count = c.before.place-1.given.0.1.0 }
 
   is : stream_place page ≡ accepted place
-  is = sym c.before.before.before.stream-place.ensures ∙ ap stream_place_answer c.before.place.given.1
+  is = sym c.before.before.before.stream_place-place.ensures ∙ ap stream_place_answer c.before.place-1.given.1
 
-  within : c.before.place.given.0.0 ≤ length page
+  within : c.before.place-1.given.0.0 ≤ length page
   within = let placed = place_accepted page place is in omega arith
 
-stream-place-requires : tie.Need-stream-place-requires
-stream-place-requires c κs = search rules
+stream_place-place-requires : tie.Need-stream_place-place-requires
+stream_place-place-requires c κs = search rules
 
-enum-known-place : tie.Need-enum-known-place
-enum-known-place c = search rules
+enum_known-place : tie.Need-enum_known-place
+enum_known-place c = search rules
 
-enum_told : tie.Need-enum-told
-enum_told c = search rules
+enum_told-1 : tie.Need-enum_told-1
+enum_told-1 c = search rules
 
 refusal-requires : tie.Need-refusal-requires
 refusal-requires c κs = search rules
 
-returns : tie.Need-returns
-returns c =
-    let told = c.before.enum_told.given in
+returns-in_default : tie.Need-returns-in_default
+returns-in_default c =
+    let told = c.before.enum_told-1.given in
     let page = c.before.before.before.before.before.args.page.now in
-    let stop = scan_no page (sym c.before.before.before.stream-place.ensures ∙ ap stream_place_answer told.1) in
+    let stop = scan_no page (sym c.before.before.before.stream_place-place.ensures ∙ ap stream_place_answer told.1) in
     ap refused (c.refusal.ensures ∙ ap (λ (g : StreamPlace). refusal_of (stream_place_answer g)) told.1)
     ∙ sym (answered_no (end_from 0) (page_scan page) stop)
 
-sub-scan-fk-delta-stream : tie.Need-overflow-sub-scan-fk-delta-stream
-sub-scan-fk-delta-stream c = within c
+slice_bounds-scan_fk_delta_stream-count : tie.Need-slice_bounds-scan_fk_delta_stream-count
+slice_bounds-scan_fk_delta_stream-count c = within c
 
-part-scan-fk-delta-stream-start : tie.Need-slice-bounds-scan-fk-delta-stream-start
-part-scan-fk-delta-stream-start c = within c
+slice_bounds-scan_fk_delta_stream-start : tie.Need-slice_bounds-scan_fk_delta_stream-start
+slice_bounds-scan_fk_delta_stream-start c = within c
 
-part-scan-fk-delta-stream-end : tie.Need-slice-bounds-scan-fk-delta-stream-end
-part-scan-fk-delta-stream-end c = search rules
+slice_bounds-scan_fk_delta_stream-end : tie.Need-slice_bounds-scan_fk_delta_stream-end
+slice_bounds-scan_fk_delta_stream-end c = search rules
 
-scan-fk-delta-stream-requires : tie.Need-scan-fk-delta-stream-requires
-scan-fk-delta-stream-requires c κs = search rules
+scan_fk_delta_stream-requires : tie.Need-scan_fk_delta_stream-requires
+scan_fk_delta_stream-requires c κs = search rules
 
-returns-2 : tie.Need-returns-2
-returns-2 c =
+returns : tie.Need-returns
+returns c =
     let d = c.before.before in
-    c.scan-fk-delta-stream.ensures
+    c.scan_fk_delta_stream.ensures
     ∙ ap (λ (bs : List ℕ). answered (end_from 0) (scan (place d).count bs)) (part_to_end (page d) (place d).off)
     ∙ ap (answered (end_from 0)) (sym (scan_yes (page d) (place d) (is d)))
 
-pub sh-page-stream-tail-spec : {M : Type 1} → statement M
-sh-page-stream-tail-spec =
+pub sh_page_stream_tail_spec : {M : Type 1} → statement M
+sh_page_stream_tail_spec =
     tie.close
     (tie.spec
-    stream-place-requires
-    enum-known-place
-    enum_told
+    stream_place-place-requires
+    enum_known-place
+    enum_told-1
     refusal-requires
-    returns
-    sub-scan-fk-delta-stream
-    part-scan-fk-delta-stream-start
-    part-scan-fk-delta-stream-end
-    scan-fk-delta-stream-requires
-    returns-2)
+    returns-in_default
+    slice_bounds-scan_fk_delta_stream-count
+    slice_bounds-scan_fk_delta_stream-start
+    slice_bounds-scan_fk_delta_stream-end
+    scan_fk_delta_stream-requires
+    returns)

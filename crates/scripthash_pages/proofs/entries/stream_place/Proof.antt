@@ -16,58 +16,58 @@ use Rattle.scripthash_pages.proofs.entries.stream_place.Statement.{statement}
 use Rattle.scripthash_pages.proofs.entries.stream_place.Tie as tie
 
 -- a page that can be read
-module _ (c : tie.After-enum-told) where
+module _ (c : tie.In-Done) where
   abbrev page : List ℕ
   page = c.before.before.before.before.args.page.now
 
   passes : require_delta page ≡ accepted tt
-  passes = sym c.before.before.sh-page-require-delta.ensures ∙ ap done_answer c.enum_told.given.1
+  passes = sym c.before.before.sh_page_require_delta-passed.ensures ∙ ap done_answer c.enum_told-1.given.1
 
   long : length page ≡ page_size
   long = delta_long page passes
 
-sh-page-require-delta-requires : tie.Need-sh-page-require-delta-requires
-sh-page-require-delta-requires c κs = search rules
+sh_page_require_delta-passed-requires : tie.Need-sh_page_require_delta-passed-requires
+sh_page_require_delta-passed-requires c κs = search rules
 
-enum_told : tie.Need-enum-told
-enum_told c = search rules
+enum_told-1 : tie.Need-enum_told-1
+enum_told-1 c = search rules
 
-enum-told-2 : tie.Need-enum-told-2
-enum-told-2 c = search rules
+enum_told-in_default : tie.Need-enum_told-in_default
+enum_told-in_default c = search rules
 
 refusal-requires : tie.Need-refusal-requires
 refusal-requires c κs = search rules
 
-returns : tie.Need-returns
-returns c =
-    let told = c.before.enum-told2.given.1 in
+returns-in_default : tie.Need-returns-in_default
+returns-in_default c =
+    let told = c.before.enum_told-in_default-1.given.1 in
     let d = c.before.before.before in
     ap refused (c.refusal.ensures ∙ ap (λ (g : PageDone). refusal_of (done_answer g)) told)
-    ∙ sym (place_refused d.before.before.args.page.now (sym d.sh-page-require-delta.ensures ∙ ap done_answer told))
+    ∙ sym (place_refused d.before.before.args.page.now (sym d.sh_page_require_delta-passed.ensures ∙ ap done_answer told))
 
-stream-off-requires : tie.Need-stream-off-requires
-stream-off-requires c κs = search (rules, long c)
+stream_off-requires : tie.Need-stream_off-requires
+stream_off-requires c κs = search (rules, long c)
 
-get-u16-requires : tie.Need-get-u16-requires
-get-u16-requires c κs = omega (arith, long c.before)
+get_u16-requires : tie.Need-get_u16-requires
+get_u16-requires c κs = omega (arith, long c.before)
 
-cast-t6 : tie.Need-overflow-cast-t6
-cast-t6 c = search rules
+overflow_cast-result : tie.Need-overflow_cast-result
+overflow_cast-result c = search rules
 
-returns-2 : tie.Need-returns-2
+returns : tie.Need-returns
 unfolding field
-returns-2 c = let d = c.before.before in place_at (page d) _ _ c.before.stream-off.ensures c.get-u16.ensures (passes d)
+returns c = let d = c.before.before in place_at (page d) _ _ c.before.stream_off.ensures c.get_u16.ensures (passes d)
 
-pub stream-place-spec : {M : Type 1} → statement M
-stream-place-spec =
+pub stream_place_spec : {M : Type 1} → statement M
+stream_place_spec =
     tie.close
     (tie.spec
-    sh-page-require-delta-requires
-    enum_told
-    enum-told-2
+    sh_page_require_delta-passed-requires
+    enum_told-1
+    enum_told-in_default
     refusal-requires
-    returns
-    stream-off-requires
-    get-u16-requires
-    cast-t6
-    returns-2)
+    returns-in_default
+    stream_off-requires
+    get_u16-requires
+    overflow_cast-result
+    returns)

@@ -4,11 +4,11 @@ use borrow.Author.Tests.{eq-eqb, ne_eqb}
 use Rattle.scripthash_pages.proofs.pack.linked_off.Statement.{statement}
 use Rattle.scripthash_pages.proofs.pack.linked_off.Tie as tie
 
+returns-then-next-eq0 : tie.Need-returns-then-next-eq0
+returns-then-next-eq0 c = rw (eq-eqb c.before.args.next 0 c.if-next-eq0.true)
+
 returns : tie.Need-returns
-returns c = rw (eq-eqb c.before.args.next 0 c.if1.true)
+returns c = rw (ne_eqb c.before.args.next 0 c.if-next-eq0.false)
 
-returns-2 : tie.Need-returns-2
-returns-2 c = rw (ne_eqb c.before.args.next 0 c.if1.false)
-
-pub linked-off-spec : {M : Type 1} → statement M
-linked-off-spec = tie.close (tie.spec returns returns-2)
+pub linked_off_spec : {M : Type 1} → statement M
+linked_off_spec = tie.close (tie.spec returns-then-next-eq0 returns)

@@ -24,7 +24,7 @@ use Rattle.scripthash_pages.proofs.pack.pack_stream.Statement.{statement}
 use Rattle.scripthash_pages.proofs.pack.pack_stream.Tie as tie
 
 -- the stream's encoder was lent the part behind the first bytes
-module _ (c : tie.After-encode-fk-delta-stream-into) where
+module _ (c : tie.After-encode_fk_delta_stream_into-got) where
   abbrev start : tie.Start
   start = c.before.before.before.before.before
 
@@ -41,7 +41,7 @@ module _ (c : tie.After-encode-fk-delta-stream-into) where
   header = take off page
 
   abbrev out : List ℕ
-  out = c.encode-fk-delta-stream-into.new.0
+  out = c.encode_fk_delta_stream_into-got.new.0
 
   inside : off ≤ length page
   inside = omega arith
@@ -49,19 +49,19 @@ module _ (c : tie.After-encode-fk-delta-stream-into) where
   room : page_size - length header ≡ length page - off
   room = omega (arith, length-take-le off page inside, start.pre.0)
 
-  answer : encode_stream (length page - off) fks ≡ bytes_answer c.encode-fk-delta-stream-into.result
-  answer = sym (c.encode-fk-delta-stream-into.ensures.0 ∙ ap (λ (r : ℕ). encode_stream r fks) (length_lent page off inside))
+  answer : encode_stream (length page - off) fks ≡ bytes_answer c.encode_fk_delta_stream_into-got.result
+  answer = sym (c.encode_fk_delta_stream_into-got.ensures.0 ∙ ap (λ (r : ℕ). encode_stream r fks) (length_lent page off inside))
 
 -- and wrote the stream there
-module _ (c : tie.After-known-told) where
-  abbrev enc : tie.After-encode-fk-delta-stream-into
+module _ (c : tie.In-Bytes) where
+  abbrev enc : tie.After-encode_fk_delta_stream_into-got
   enc = c.before.before.before.before.before
 
   abbrev len : ℕ
-  len = c.before.got.given.0.0
+  len = c.before.got-1.given.0.0
 
   is : encode_stream (length (page enc) - off enc) (fks enc) ≡ accepted len
-  is = answer enc ∙ ap bytes_answer c.before.got.given.1
+  is = answer enc ∙ ap bytes_answer c.before.got-1.given.1
 
   ends : length (stream (fks enc)) ≡ len
   ends = let h = encode_accepted (length (page enc) - off enc) (fks enc) is in length_stream 0 (fks enc) ∙ h.2
@@ -77,7 +77,7 @@ module _ (c : tie.After-known-told) where
   between = put_back (page enc) (off enc) (out enc)
 
   between_is : between ≡ overwrite (page enc) (off enc) (stream (fks enc))
-  between_is = lent_yes (page enc) (off enc) (inside enc) (fks enc) (out enc) enc.encode-fk-delta-stream-into.ensures.1 is
+  between_is = lent_yes (page enc) (off enc) (inside enc) (fks enc) (out enc) enc.encode_fk_delta_stream_into-got.ensures.1 is
 
   between_long : off enc + len ≤ length between
   between_long =
@@ -86,67 +86,67 @@ module _ (c : tie.After-known-told) where
       let fits = within in
       omega (arith, ap length between_is ∙ length_overwrite (page enc) (off enc) (stream (fks enc)) (omega arith))
 
-returns : tie.Need-returns
-returns c =
+returns-then-fks-gt-MAX_OFFERED : tie.Need-returns-then-fks-gt-MAX_OFFERED
+returns-then-fks-gt-MAX_OFFERED c =
     let a = c.before.before.before.args in
     set_no a.page.now (packed (take a.off a.page.now) a.fks.now)
     (packed_many (take a.off a.page.now) a.fks.now (omega arith))
 
-sub-encode-fk-delta-stream-into : tie.Need-overflow-sub-encode-fk-delta-stream-into
-sub-encode-fk-delta-stream-into c = search rules
+slice_bounds-encode_fk_delta_stream_into-count : tie.Need-slice_bounds-encode_fk_delta_stream_into-count
+slice_bounds-encode_fk_delta_stream_into-count c = search rules
 
-part-encode-fk-delta-stream-into-start : tie.Need-slice-bounds-encode-fk-delta-stream-into-start
-part-encode-fk-delta-stream-into-start c = search rules
+slice_bounds-encode_fk_delta_stream_into-start : tie.Need-slice_bounds-encode_fk_delta_stream_into-start
+slice_bounds-encode_fk_delta_stream_into-start c = search rules
 
-part-encode-fk-delta-stream-into-end : tie.Need-slice-bounds-encode-fk-delta-stream-into-end
-part-encode-fk-delta-stream-into-end c = search rules
+slice_bounds-encode_fk_delta_stream_into-end : tie.Need-slice_bounds-encode_fk_delta_stream_into-end
+slice_bounds-encode_fk_delta_stream_into-end c = search rules
 
-encode-fk-delta-stream-into-requires : tie.Need-encode-fk-delta-stream-into-requires
-encode-fk-delta-stream-into-requires c κs = search rules
+encode_fk_delta_stream_into-got-requires : tie.Need-encode_fk_delta_stream_into-got-requires
+encode_fk_delta_stream_into-got-requires c κs = search rules
 
-enum-known-got : tie.Need-enum-known-got
-enum-known-got c = search rules
+enum_known-got : tie.Need-enum_known-got
+enum_known-got c = search rules
 
-enum_told : tie.Need-enum-told
-enum_told c = search rules
+enum_told-1 : tie.Need-enum_told-1
+enum_told-1 c = search rules
 
 refusal-requires : tie.Need-refusal-requires
 refusal-requires c κs = search rules
 
-same_length : tie.Need-same-length
-same_length c = search rules
+shape_of-page-in_default : tie.Need-shape_of-page-in_default
+shape_of-page-in_default c = search rules
 
-returns-2 : tie.Need-returns-2
-returns-2 c =
-    let told = c.before.enum_told.given in
+returns-in_default : tie.Need-returns-in_default
+returns-in_default c =
+    let told = c.before.enum_told-1.given in
     let d = c.before.before.before.before.before in
     let stop : encode_stream (length (page d) - off d) (fks d) ≡ refused told.0.0 = answer d ∙ ap bytes_answer told.1 in
     let stopped = packed_stop (header d) (fks d) (omega arith) (ap (λ (r : ℕ). encode_stream r (fks d)) (room d) ∙ stop) in
     let no = set_no (page d) (packed (header d) (fks d)) stopped in (
       ap refused (c.refusal.ensures ∙ ap (λ (g : StreamBytes). refusal_of (bytes_answer g)) told.1) ∙ no.0,
-      lent_no (page d) (off d) (inside d) (fks d) (out d) d.encode-fk-delta-stream-into.ensures.1 stop ∙ no.1,
+      lent_no (page d) (off d) (inside d) (fks d) (out d) d.encode_fk_delta_stream_into-got.ensures.1 stop ∙ no.1,
     )
 
-add-end : tie.Need-overflow-add-end
-add-end c = omega (arith, within c)
+overflow_add-end : tie.Need-overflow_add-end
+overflow_add-end c = omega (arith, within c)
 
-sub-clear : tie.Need-overflow-sub-clear
-sub-clear c = between_long c
+slice_bounds-clear-count : tie.Need-slice_bounds-clear-count
+slice_bounds-clear-count c = between_long c
 
-part-clear-start : tie.Need-slice-bounds-clear-start
-part-clear-start c = between_long c
+slice_bounds-clear-start : tie.Need-slice_bounds-clear-start
+slice_bounds-clear-start c = between_long c
 
-part-clear-end : tie.Need-slice-bounds-clear-end
-part-clear-end c = search rules
+slice_bounds-clear-end : tie.Need-slice_bounds-clear-end
+slice_bounds-clear-end c = search rules
 
 clear-requires : tie.Need-clear-requires
 clear-requires c κs = search rules
 
-same-length-2 : tie.Need-same-length-2
-same-length-2 c = search rules
+shape_of-page : tie.Need-shape_of-page
+shape_of-page c = search rules
 
-returns-3 : tie.Need-returns-3
-returns-3 c =
+returns : tie.Need-returns
+returns c =
     let k = c.before.before.before.before in
     let e = enc k in
     let s = stream (fks e) in
@@ -158,24 +158,24 @@ returns-3 c =
     (between_is k)
     c.before.before.clear.ensures)
 
-pub pack-stream-spec : {M : Type 1} → statement M
-pack-stream-spec =
+pub pack_stream_spec : {M : Type 1} → statement M
+pack_stream_spec =
     tie.close
     (tie.spec
-    returns
-    sub-encode-fk-delta-stream-into
-    part-encode-fk-delta-stream-into-start
-    part-encode-fk-delta-stream-into-end
-    encode-fk-delta-stream-into-requires
-    enum-known-got
-    enum_told
+    returns-then-fks-gt-MAX_OFFERED
+    slice_bounds-encode_fk_delta_stream_into-count
+    slice_bounds-encode_fk_delta_stream_into-start
+    slice_bounds-encode_fk_delta_stream_into-end
+    encode_fk_delta_stream_into-got-requires
+    enum_known-got
+    enum_told-1
     refusal-requires
-    same_length
-    returns-2
-    add-end
-    sub-clear
-    part-clear-start
-    part-clear-end
+    shape_of-page-in_default
+    returns-in_default
+    overflow_add-end
+    slice_bounds-clear-count
+    slice_bounds-clear-start
+    slice_bounds-clear-end
     clear-requires
-    same-length-2
-    returns-3)
+    shape_of-page
+    returns)

@@ -10,17 +10,17 @@ use Rattle.scripthash_pages.proofs.LawsPack.{three_written}
 use Rattle.scripthash_pages.proofs.pack.put_extent.Statement.{statement}
 use Rattle.scripthash_pages.proofs.pack.put_extent.Tie as tie
 
-put-u64-requires : tie.Need-put-u64-requires
-put-u64-requires c κs = search rules
+put_u64-requires : tie.Need-put_u64-requires
+put_u64-requires c κs = search rules
 
-put-u32-requires : tie.Need-put-u32-requires
-put-u32-requires c κs = search rules
+put_u32-requires : tie.Need-put_u32-requires
+put_u32-requires c κs = search rules
 
-put-u32-requires-2 : tie.Need-put-u32-requires-2
-put-u32-requires-2 c κs = search rules
+put_u32-requires-2 : tie.Need-put_u32-requires-2
+put_u32-requires-2 c κs = search rules
 
-same_length : tie.Need-same-length
-same_length c = search rules
+shape_of-page : tie.Need-shape_of-page
+shape_of-page c = search rules
 
 returns : tie.Need-returns
 returns c =
@@ -28,10 +28,10 @@ returns c =
     let second = third.before.before.before.before in
     let first = second.before.before.before.before in
     let a = first.before.before.before.args in
-    third.put-u322.ensures
+    third.put_u32-2.ensures
     ∙ ap (λ (b : List ℕ). overwrite b 20 (bytes_of 4 0))
-    (second.put-u32.ensures ∙ ap (λ (b : List ℕ). overwrite b 16 (bytes_of 4 a.n)) first.put-u64.ensures)
+    (second.put_u32.ensures ∙ ap (λ (b : List ℕ). overwrite b 16 (bytes_of 4 a.n)) first.put_u64.ensures)
     ∙ three_written a.page.now 8 (bytes_of 8 a.base) (bytes_of 4 a.n) (bytes_of 4 0) (omega arith)
 
-pub put-extent-spec : {M : Type 1} → statement M
-put-extent-spec = tie.close (tie.spec put-u64-requires put-u32-requires put-u32-requires-2 same_length returns)
+pub put_extent_spec : {M : Type 1} → statement M
+put_extent_spec = tie.close (tie.spec put_u64-requires put_u32-requires put_u32-requires-2 shape_of-page returns)

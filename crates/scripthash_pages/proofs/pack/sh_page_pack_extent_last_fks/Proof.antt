@@ -23,7 +23,7 @@ use Rattle.scripthash_pages.proofs.pack.sh_page_pack_extent_last_fks.Statement.{
 use Rattle.scripthash_pages.proofs.pack.sh_page_pack_extent_last_fks.Tie as tie
 
 -- the link was tested
-module _ (c : tie.After-check-link) where
+module _ (c : tie.After-check_link-named) where
   abbrev start : tie.Start
   start = c.before.before.before.before.before
 
@@ -46,7 +46,7 @@ module _ (c : tie.After-check-link) where
   header = extent_header (length fks) (link_to (eqb next 0) (linked base next)) base count 0
 
   long : length page ≡ page_size
-  long = c.before.before.if1.false
+  long = c.before.before.if-page-ne-SH_PAGE_SIZE.false
 
   size : length header ≡ 24
   unfolding extent_header
@@ -55,30 +55,30 @@ module _ (c : tie.After-check-link) where
   inside : 24 ≤ length page
   inside = omega (arith, long)
 
-  named : link_named (linked base next) ≡ done_answer c.check-link.result
-  named = ap link_named (sym c.before.linked-off.ensures) ∙ sym c.check-link.ensures
+  named : link_named (linked base next) ≡ done_answer c.check_link-named.result
+  named = ap link_named (sym c.before.linked_off-off.ensures) ∙ sym c.check_link-named.ensures
 
 -- the stream was offered
-module _ (c : tie.After-pack-stream) where
-  abbrev tested : tie.After-check-extent
+module _ (c : tie.After-pack_stream-packed) where
+  abbrev tested : tie.After-check_extent-good
   tested = c.before.before.before.before
 
-  abbrev at : tie.After-check-link
+  abbrev at : tie.After-check_link-named
   at = tested.before.before.before
 
   abbrev out : List ℕ
-  out = c.pack-stream.new.0
+  out = c.pack_stream-packed.new.0
 
   as_packed : pack_extent (page at) (fks at) (base at) (count at) (next at) ≡ packed (header at) (fks at)
   unfolding pack_extent
   as_packed =
       page_yes (page at) _ (long at)
-      ∙ link_yes (linked (base at) (next at)) _ (named at ∙ ap done_answer tested.before.enum_told.given.1)
-      ∙ extent_yes (base at) (count at) _ (sym tested.check-extent.ensures ∙ ap done_answer c.before.before.enum-told3.given.1)
+      ∙ link_yes (linked (base at) (next at)) _ (named at ∙ ap done_answer tested.before.enum_told-1.given.1)
+      ∙ extent_yes (base at) (count at) _ (sym tested.check_extent-good.ensures ∙ ap done_answer c.before.before.enum_told-in-Done-good-1.given.1)
 
 -- and accepted
-module _ (c : tie.After-enum-told5) where
-  abbrev offer : tie.After-pack-stream
+module _ (c : tie.In-Done-packed) where
+  abbrev offer : tie.After-pack_stream-packed
   offer = c.before.before.before.before
 
   good : (length (fks (at offer)) ≤ max_offered)
@@ -86,8 +86,8 @@ module _ (c : tie.After-enum-told5) where
       × (overwrite (out offer) 0 (header (at offer)) ≡ page_of (header (at offer)) (stream (fks (at offer))))
   good =
       let k = at offer in
-      behind_yes (page k) (fks k) (header k) 24 (inside k) (size k) (out offer) offer.pack-stream.ensures.1
-      (sym offer.pack-stream.ensures.0 ∙ ap done_answer c.enum-told5.given.1)
+      behind_yes (page k) (fks k) (header k) 24 (inside k) (size k) (out offer) offer.pack_stream-packed.ensures.1
+      (sym offer.pack_stream-packed.ensures.0 ∙ ap done_answer c.enum_told-in-Done-packed-1.given.1)
 
 -- the header's two writes adjoin
 header_put : (b : List ℕ) (n l base count : ℕ)
@@ -97,128 +97,128 @@ unfolding extent_header
 header_put b n l base count =
     overwrite_adjoin b 0 (bytes_of 1 2 ++ (bytes_of 2 n ++ bytes_of 5 l)) (bytes_of 8 base ++ (bytes_of 4 count ++ bytes_of 4 0)) (omega arith)
 
-returns : tie.Need-returns
+returns-then-page-ne-SH_PAGE_SIZE : tie.Need-returns-then-page-ne-SH_PAGE_SIZE
 unfolding pack_extent
-returns c =
+returns-then-page-ne-SH_PAGE_SIZE c =
     let a = c.before.before.before.args in
-    set_no a.page.now (pack_extent a.page.now a.fks.now a.base a.n a.next) (page_no_lem a.page.now _ c.if1.true)
+    set_no a.page.now (pack_extent a.page.now a.fks.now a.base a.n a.next) (page_no_lem a.page.now _ c.if-page-ne-SH_PAGE_SIZE.true)
 
-linked-off-requires : tie.Need-linked-off-requires
-linked-off-requires c κs = search rules
+linked_off-off-requires : tie.Need-linked_off-off-requires
+linked_off-off-requires c κs = search rules
 
-check-link-requires : tie.Need-check-link-requires
-check-link-requires c κs = search rules
+check_link-named-requires : tie.Need-check_link-named-requires
+check_link-named-requires c κs = search rules
 
-enum_told : tie.Need-enum-told
-enum_told c = search rules
+enum_told-1 : tie.Need-enum_told-1
+enum_told-1 c = search rules
 
-enum-told-2 : tie.Need-enum-told-2
-enum-told-2 c = search rules
+enum_told-in_default : tie.Need-enum_told-in_default
+enum_told-in_default c = search rules
 
-returns-2 : tie.Need-returns-2
+returns-in_default : tie.Need-returns-in_default
 unfolding pack_extent
-returns-2 c =
-    let told = c.enum-told2.given.1 in
+returns-in_default c =
+    let told = c.enum_told-in_default-1.given.1 in
     let k = c.before.before in
     let no = set_no (page k) (pack_extent (page k) (fks k) (base k) (count k) (next k))
     (page_yes (page k) _ (long k) ∙ link_no (linked (base k) (next k)) _ (named k ∙ ap done_answer told)) in
     (ap done_answer told ∙ no.0, no.1)
 
-check-extent-requires : tie.Need-check-extent-requires
-check-extent-requires c κs = search rules
+check_extent-good-requires : tie.Need-check_extent-good-requires
+check_extent-good-requires c κs = search rules
 
-enum-told-3 : tie.Need-enum-told-3
-enum-told-3 c = search rules
+enum_told-in-Done-good : tie.Need-enum_told-in-Done-good
+enum_told-in-Done-good c = search rules
 
-enum-told-4 : tie.Need-enum-told-4
-enum-told-4 c = search rules
+enum_told-in_default-good : tie.Need-enum_told-in_default-good
+enum_told-in_default-good c = search rules
 
-returns-3 : tie.Need-returns-3
+returns-in_default-good : tie.Need-returns-in_default-good
 unfolding pack_extent
-returns-3 c =
-    let told = c.enum-told4.given.1 in
+returns-in_default-good c =
+    let told = c.enum_told-in_default-good-1.given.1 in
     let d = c.before.before in
     let k = d.before.before.before in
     let no = set_no (page k) (pack_extent (page k) (fks k) (base k) (count k) (next k))
-    (page_yes (page k) _ (long k) ∙ link_yes (linked (base k) (next k)) _ (named k ∙ ap done_answer d.before.enum_told.given.1)
-    ∙ extent_no (base k) (count k) _ (sym d.check-extent.ensures ∙ ap done_answer told)) in
+    (page_yes (page k) _ (long k) ∙ link_yes (linked (base k) (next k)) _ (named k ∙ ap done_answer d.before.enum_told-1.given.1)
+    ∙ extent_no (base k) (count k) _ (sym d.check_extent-good.ensures ∙ ap done_answer told)) in
     (ap done_answer told ∙ no.0, no.1)
 
-pack-stream-requires : tie.Need-pack-stream-requires
-pack-stream-requires c κs = search rules
+pack_stream-packed-requires : tie.Need-pack_stream-packed-requires
+pack_stream-packed-requires c κs = search rules
 
-enum-told-5 : tie.Need-enum-told-5
-enum-told-5 c = search rules
+enum_told-in-Done-packed : tie.Need-enum_told-in-Done-packed
+enum_told-in-Done-packed c = search rules
 
-enum-told-6 : tie.Need-enum-told-6
-enum-told-6 c = search rules
+enum_told-in_default-packed : tie.Need-enum_told-in_default-packed
+enum_told-in_default-packed c = search rules
 
-same_length : tie.Need-same-length
-same_length c = search rules
+shape_of-page-in_default-packed : tie.Need-shape_of-page-in_default-packed
+shape_of-page-in_default-packed c = search rules
 
-returns-4 : tie.Need-returns-4
-returns-4 c =
-    let told = c.enum-told6.given.1 in
+returns-in_default-packed : tie.Need-returns-in_default-packed
+returns-in_default-packed c =
+    let told = c.enum_told-in_default-packed-1.given.1 in
     let d = c.before.before.before.before in
     let k = at d in
-    let stop = behind_no (page k) (fks k) (header k) 24 (inside k) (size k) (out d) d.pack-stream.ensures.1
-    (sym d.pack-stream.ensures.0 ∙ ap done_answer told) in
+    let stop = behind_no (page k) (fks k) (header k) 24 (inside k) (size k) (out d) d.pack_stream-packed.ensures.1
+    (sym d.pack_stream-packed.ensures.0 ∙ ap done_answer told) in
     let no = set_no (page k) (pack_extent (page k) (fks k) (base k) (count k) (next k)) (as_packed d ∙ stop.0) in
     (ap done_answer told ∙ no.0, stop.1 ∙ no.1)
 
-link-to-requires : tie.Need-link-to-requires
-link-to-requires c κs = search rules
+link_to-link-requires : tie.Need-link_to-link-requires
+link_to-link-requires c κs = search rules
 
-cast-put-header : tie.Need-overflow-cast-put-header
-cast-put-header c = omega (arith, (good c.before.before).0)
+overflow_cast-fks : tie.Need-overflow_cast-fks
+overflow_cast-fks c = omega (arith, (good c.before.before).0)
 
-put-header-requires : tie.Need-put-header-requires
-put-header-requires c κs = search rules
+put_header-requires : tie.Need-put_header-requires
+put_header-requires c κs = search rules
 
-put-extent-requires : tie.Need-put-extent-requires
-put-extent-requires c κs = search rules
+put_extent-requires : tie.Need-put_extent-requires
+put_extent-requires c κs = search rules
 
-same-length-2 : tie.Need-same-length-2
-same-length-2 c = search rules
+shape_of-page : tie.Need-shape_of-page
+shape_of-page c = search rules
 
-returns-5 : tie.Need-returns-5
-returns-5 c =
+returns : tie.Need-returns
+returns c =
     let second = c.before.before in
     let first = second.before.before.before.before in
     let l = first.before.before in
     let t = l.before in
     let d = offer t in
     let k = at d in
-    let link : l.link-to.result ≡ link_to (eqb (next k) 0) (linked (base k) (next k)) =
-    l.link-to.ensures ∙ ap (link_to (eqb (next k) 0)) (at d).before.linked-off.ensures in
+    let link : l.link_to-link.result ≡ link_to (eqb (next k) 0) (linked (base k) (next k)) =
+    l.link_to-link.ensures ∙ ap (link_to (eqb (next k) 0)) (at d).before.linked_off-off.ensures in
     set_yes (page k) _ (pack_extent (page k) (fks k) (base k) (count k) (next k)) (as_packed d ∙ (good t).1)
-    (second.put-extent.ensures
-    ∙ ap (λ (b : List ℕ). overwrite b 8 (bytes_of 8 (base k) ++ (bytes_of 4 (count k) ++ bytes_of 4 0))) first.put-header.ensures
-    ∙ header_put (out d) (length (fks k)) l.link-to.result (base k) (count k)
+    (second.put_extent.ensures
+    ∙ ap (λ (b : List ℕ). overwrite b 8 (bytes_of 8 (base k) ++ (bytes_of 4 (count k) ++ bytes_of 4 0))) first.put_header.ensures
+    ∙ header_put (out d) (length (fks k)) l.link_to-link.result (base k) (count k)
     ∙ ap (λ (m : ℕ). overwrite (out d) 0 (extent_header (length (fks k)) m (base k) (count k) 0)) link ∙ (good t).2)
 
-pub sh-page-pack-extent-last-fks-spec : {M : Type 1} → statement M
-sh-page-pack-extent-last-fks-spec =
+pub sh_page_pack_extent_last_fks_spec : {M : Type 1} → statement M
+sh_page_pack_extent_last_fks_spec =
     tie.close
     (tie.spec
-    returns
-    linked-off-requires
-    check-link-requires
-    enum_told
-    enum-told-2
-    returns-2
-    check-extent-requires
-    enum-told-3
-    enum-told-4
-    returns-3
-    pack-stream-requires
-    enum-told-5
-    enum-told-6
-    same_length
-    returns-4
-    link-to-requires
-    cast-put-header
-    put-header-requires
-    put-extent-requires
-    same-length-2
-    returns-5)
+    returns-then-page-ne-SH_PAGE_SIZE
+    linked_off-off-requires
+    check_link-named-requires
+    enum_told-1
+    enum_told-in_default
+    returns-in_default
+    check_extent-good-requires
+    enum_told-in-Done-good
+    enum_told-in_default-good
+    returns-in_default-good
+    pack_stream-packed-requires
+    enum_told-in-Done-packed
+    enum_told-in_default-packed
+    shape_of-page-in_default-packed
+    returns-in_default-packed
+    link_to-link-requires
+    overflow_cast-fks
+    put_header-requires
+    put_extent-requires
+    shape_of-page
+    returns)

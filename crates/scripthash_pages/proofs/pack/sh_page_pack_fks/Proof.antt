@@ -22,7 +22,7 @@ use Rattle.scripthash_pages.proofs.pack.sh_page_pack_fks.Statement.{statement}
 use Rattle.scripthash_pages.proofs.pack.sh_page_pack_fks.Tie as tie
 
 -- the link was tested
-module _ (c : tie.After-check-link) where
+module _ (c : tie.After-check_link-named) where
   abbrev start : tie.Start
   start = c.before.before.before.before
 
@@ -39,7 +39,7 @@ module _ (c : tie.After-check-link) where
   header = delta_header (length fks) (link_to (eqb next 0) next)
 
   long : length page ≡ page_size
-  long = c.before.if1.false
+  long = c.before.if-page-ne-SH_PAGE_SIZE.false
 
   size : length header ≡ 8
   unfolding delta_header
@@ -49,22 +49,22 @@ module _ (c : tie.After-check-link) where
   inside = omega (arith, long)
 
 -- the stream was offered
-module _ (c : tie.After-pack-stream) where
-  abbrev at : tie.After-check-link
+module _ (c : tie.After-pack_stream-packed) where
+  abbrev at : tie.After-check_link-named
   at = c.before.before.before.before
 
   abbrev out : List ℕ
-  out = c.pack-stream.new.0
+  out = c.pack_stream-packed.new.0
 
   as_packed : pack_page (page at) (fks at) (next at) ≡ packed (header at) (fks at)
   unfolding pack_page
   as_packed =
       page_yes (page at) _ (long at)
-      ∙ link_yes (next at) _ (sym at.check-link.ensures ∙ ap done_answer c.before.before.enum_told.given.1)
+      ∙ link_yes (next at) _ (sym at.check_link-named.ensures ∙ ap done_answer c.before.before.enum_told-1.given.1)
 
 -- and accepted
-module _ (c : tie.After-enum-told3) where
-  abbrev offer : tie.After-pack-stream
+module _ (c : tie.In-Done-packed) where
+  abbrev offer : tie.After-pack_stream-packed
   offer = c.before.before.before.before
 
   good : (length (fks (at offer)) ≤ max_offered)
@@ -72,96 +72,96 @@ module _ (c : tie.After-enum-told3) where
       × (overwrite (out offer) 0 (header (at offer)) ≡ page_of (header (at offer)) (stream (fks (at offer))))
   good =
       let k = at offer in
-      behind_yes (page k) (fks k) (header k) 8 (inside k) (size k) (out offer) offer.pack-stream.ensures.1
-      (sym offer.pack-stream.ensures.0 ∙ ap done_answer c.enum-told3.given.1)
+      behind_yes (page k) (fks k) (header k) 8 (inside k) (size k) (out offer) offer.pack_stream-packed.ensures.1
+      (sym offer.pack_stream-packed.ensures.0 ∙ ap done_answer c.enum_told-in-Done-packed-1.given.1)
 
-returns : tie.Need-returns
+returns-then-page-ne-SH_PAGE_SIZE : tie.Need-returns-then-page-ne-SH_PAGE_SIZE
 unfolding pack_page
-returns c =
+returns-then-page-ne-SH_PAGE_SIZE c =
     let a = c.before.before.before.args in
-    set_no a.page.now (pack_page a.page.now a.fks.now a.next) (page_no_lem a.page.now _ c.if1.true)
+    set_no a.page.now (pack_page a.page.now a.fks.now a.next) (page_no_lem a.page.now _ c.if-page-ne-SH_PAGE_SIZE.true)
 
-check-link-requires : tie.Need-check-link-requires
-check-link-requires c κs = search rules
+check_link-named-requires : tie.Need-check_link-named-requires
+check_link-named-requires c κs = search rules
 
-enum_told : tie.Need-enum-told
-enum_told c = search rules
+enum_told-1 : tie.Need-enum_told-1
+enum_told-1 c = search rules
 
-enum-told-2 : tie.Need-enum-told-2
-enum-told-2 c = search rules
+enum_told-in_default : tie.Need-enum_told-in_default
+enum_told-in_default c = search rules
 
-returns-2 : tie.Need-returns-2
+returns-in_default : tie.Need-returns-in_default
 unfolding pack_page
-returns-2 c =
-    let told = c.enum-told2.given.1 in
+returns-in_default c =
+    let told = c.enum_told-in_default-1.given.1 in
     let k = c.before.before in
     let no = set_no (page k) (pack_page (page k) (fks k) (next k))
-    (page_yes (page k) _ (long k) ∙ link_no (next k) _ (sym k.check-link.ensures ∙ ap done_answer told)) in
+    (page_yes (page k) _ (long k) ∙ link_no (next k) _ (sym k.check_link-named.ensures ∙ ap done_answer told)) in
     (ap done_answer told ∙ no.0, no.1)
 
-pack-stream-requires : tie.Need-pack-stream-requires
-pack-stream-requires c κs = search rules
+pack_stream-packed-requires : tie.Need-pack_stream-packed-requires
+pack_stream-packed-requires c κs = search rules
 
-enum-told-3 : tie.Need-enum-told-3
-enum-told-3 c = search rules
+enum_told-in-Done-packed : tie.Need-enum_told-in-Done-packed
+enum_told-in-Done-packed c = search rules
 
-enum-told-4 : tie.Need-enum-told-4
-enum-told-4 c = search rules
+enum_told-in_default-packed : tie.Need-enum_told-in_default-packed
+enum_told-in_default-packed c = search rules
 
-same_length : tie.Need-same-length
-same_length c = search rules
+shape_of-page-in_default-packed : tie.Need-shape_of-page-in_default-packed
+shape_of-page-in_default-packed c = search rules
 
-returns-3 : tie.Need-returns-3
-returns-3 c =
-    let told = c.enum-told4.given.1 in
+returns-in_default-packed : tie.Need-returns-in_default-packed
+returns-in_default-packed c =
+    let told = c.enum_told-in_default-packed-1.given.1 in
     let d = c.before.before.before.before in
     let k = at d in
-    let stop = behind_no (page k) (fks k) (header k) 8 (inside k) (size k) (out d) d.pack-stream.ensures.1
-    (sym d.pack-stream.ensures.0 ∙ ap done_answer told) in
+    let stop = behind_no (page k) (fks k) (header k) 8 (inside k) (size k) (out d) d.pack_stream-packed.ensures.1
+    (sym d.pack_stream-packed.ensures.0 ∙ ap done_answer told) in
     let no = set_no (page k) (pack_page (page k) (fks k) (next k)) (as_packed d ∙ stop.0) in
     (ap done_answer told ∙ no.0, stop.1 ∙ no.1)
 
-link-to-requires : tie.Need-link-to-requires
-link-to-requires c κs = search rules
+link_to-link-requires : tie.Need-link_to-link-requires
+link_to-link-requires c κs = search rules
 
-cast-put-header : tie.Need-overflow-cast-put-header
-cast-put-header c = omega (arith, (good c.before.before).0)
+overflow_cast-fks : tie.Need-overflow_cast-fks
+overflow_cast-fks c = omega (arith, (good c.before.before).0)
 
-put-header-requires : tie.Need-put-header-requires
-put-header-requires c κs = search rules
+put_header-requires : tie.Need-put_header-requires
+put_header-requires c κs = search rules
 
-same-length-2 : tie.Need-same-length-2
-same-length-2 c = search rules
+shape_of-page : tie.Need-shape_of-page
+shape_of-page c = search rules
 
-returns-4 : tie.Need-returns-4
+returns : tie.Need-returns
 unfolding delta_header
-returns-4 c =
+returns c =
     let put = c.before.before in
     let l = put.before.before in
     let t = l.before in
     let d = offer t in
     let k = at d in
     set_yes (page k) _ (pack_page (page k) (fks k) (next k)) (as_packed d ∙ (good t).1)
-    (put.put-header.ensures
-    ∙ ap (λ (link : ℕ). overwrite (out d) 0 (bytes_of 1 1 ++ (bytes_of 2 (length (fks k)) ++ bytes_of 5 link))) l.link-to.ensures
+    (put.put_header.ensures
+    ∙ ap (λ (link : ℕ). overwrite (out d) 0 (bytes_of 1 1 ++ (bytes_of 2 (length (fks k)) ++ bytes_of 5 link))) l.link_to-link.ensures
     ∙ (good t).2)
 
-pub sh-page-pack-fks-spec : {M : Type 1} → statement M
-sh-page-pack-fks-spec =
+pub sh_page_pack_fks_spec : {M : Type 1} → statement M
+sh_page_pack_fks_spec =
     tie.close
     (tie.spec
-    returns
-    check-link-requires
-    enum_told
-    enum-told-2
-    returns-2
-    pack-stream-requires
-    enum-told-3
-    enum-told-4
-    same_length
-    returns-3
-    link-to-requires
-    cast-put-header
-    put-header-requires
-    same-length-2
-    returns-4)
+    returns-then-page-ne-SH_PAGE_SIZE
+    check_link-named-requires
+    enum_told-1
+    enum_told-in_default
+    returns-in_default
+    pack_stream-packed-requires
+    enum_told-in-Done-packed
+    enum_told-in_default-packed
+    shape_of-page-in_default-packed
+    returns-in_default-packed
+    link_to-link-requires
+    overflow_cast-fks
+    put_header-requires
+    shape_of-page
+    returns)

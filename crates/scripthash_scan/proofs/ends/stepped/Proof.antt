@@ -6,67 +6,67 @@ use borrow.Author.Rules.{rules}
 use Rattle.scripthash_scan.proofs.ends.stepped.Statement.{statement}
 use Rattle.scripthash_scan.proofs.ends.stepped.Tie as tie
 
-step-of-requires : tie.Need-step-of-requires
-step-of-requires c κs = search rules
+step_of-step-requires : tie.Need-step_of-step-requires
+step_of-step-requires c κs = search rules
 
-sub-if1 : tie.Need-overflow-sub-if1
-sub-if1 c = search rules
+overflow_sub-buf : tie.Need-overflow_sub-buf
+overflow_sub-buf c = search rules
 
 shorter-requires : tie.Need-shorter-requires
 shorter-requires c κs = search rules
 
-returns : tie.Need-returns
-returns c =
+returns-then-buf-at : tie.Need-returns-then-buf-at
+returns-then-buf-at c =
     let next = c.shorter.ensures in
     (refl, le_refl _, omega arith, next.0, λ h. omega (arith, next.1 h))
 
-add-ends-in : tie.Need-overflow-add-ends-in
-add-ends-in c = search rules
+overflow_add-at : tie.Need-overflow_add-at
+overflow_add-at c = search rules
 
-ends-in-requires : tie.Need-ends-in-requires
-ends-in-requires c κs = search rules
+ends_in-requires : tie.Need-ends_in-requires
+ends_in-requires c κs = search rules
 
-forms-requires : tie.Need-forms-requires
-forms-requires c κs = search rules
+forms-count-requires : tie.Need-forms-count-requires
+forms-count-requires c κs = search rules
 
-shorter-requires-2 : tie.Need-shorter-requires-2
-shorter-requires-2 c κs = search rules
+shorter-requires-then-left-count : tie.Need-shorter-requires-then-left-count
+shorter-requires-then-left-count c κs = search rules
 
-returns-2 : tie.Need-returns-2
-returns-2 c =
-    let next = c.shorter2.ensures in
+returns-then-left-count : tie.Need-returns-then-left-count
+returns-then-left-count c =
+    let next = c.shorter-then-left-count.ensures in
     (refl, le_refl _, omega arith, next.0, λ h. omega (arith, next.1 h))
 
-returns-3 : tie.Need-returns-3
-returns-3 c = search rules
+returns-then-dense-lt16 : tie.Need-returns-then-dense-lt16
+returns-then-dense-lt16 c = search rules
 
-density-requires : tie.Need-density-requires
-density-requires c κs = search rules
+density-next-requires : tie.Need-density-next-requires
+density-next-requires c κs = search rules
 
-returns-4 : tie.Need-returns-4
-returns-4 c = search rules
+returns-then-next-lt3 : tie.Need-returns-then-next-lt3
+returns-then-next-lt3 c = search rules
 
-add-t9 : tie.Need-overflow-add-t9
-add-t9 c = search rules
+overflow_add-result : tie.Need-overflow_add-result
+overflow_add-result c = search rules
 
-returns-5 : tie.Need-returns-5
-returns-5 c = search rules
+returns : tie.Need-returns
+returns c = search rules
 
-pub stepped-spec : {M : Type 1} → statement M
-stepped-spec =
+pub stepped_spec : {M : Type 1} → statement M
+stepped_spec =
     tie.close
     (tie.spec
-    step-of-requires
-    sub-if1
+    step_of-step-requires
+    overflow_sub-buf
     shorter-requires
-    returns
-    add-ends-in
-    ends-in-requires
-    forms-requires
-    shorter-requires-2
-    returns-2
-    returns-3
-    density-requires
-    returns-4
-    add-t9
-    returns-5)
+    returns-then-buf-at
+    overflow_add-at
+    ends_in-requires
+    forms-count-requires
+    shorter-requires-then-left-count
+    returns-then-left-count
+    returns-then-dense-lt16
+    density-next-requires
+    returns-then-next-lt3
+    overflow_add-result
+    returns)

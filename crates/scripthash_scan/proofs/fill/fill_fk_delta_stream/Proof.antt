@@ -6,61 +6,61 @@ use Rattle.scripthash_scan.proofs.LawsFill.{filled, filled_front}
 use Rattle.scripthash_scan.proofs.fill.fill_fk_delta_stream.Statement.{statement}
 use Rattle.scripthash_scan.proofs.fill.fill_fk_delta_stream.Tie as tie
 
-returns : tie.Need-returns
-returns c s e h = absurd (omega (arith, h, c.if1.true))
+returns-then-out-n : tie.Need-returns-then-out-n
+returns-then-out-n c s e h = absurd (omega (arith, h, c.if-out-n.true))
 
-one-byte-forms-requires : tie.Need-one-byte-forms-requires
-one-byte-forms-requires c κs = search rules
+one_byte_forms-requires : tie.Need-one_byte_forms-requires
+one_byte_forms-requires c κs = search rules
 
-sum-bytes-requires : tie.Need-sum-bytes-requires
-sum-bytes-requires c κs = (c.before.before.one-byte-forms.ensures c.before.if2.true, omega arith)
+sum_bytes-requires : tie.Need-sum_bytes-requires
+sum_bytes-requires c κs = (c.before.before.one_byte_forms.ensures c.before.if-one_byte_forms.true, omega arith)
 
-same_length : tie.Need-same-length
-same_length c = search rules
+shape_of-out-then-one_byte_forms : tie.Need-shape_of-out-then-one_byte_forms
+shape_of-out-then-one_byte_forms c = search rules
 
-returns-2 : tie.Need-returns-2
-returns-2 c s e h =
+returns-then-one_byte_forms : tie.Need-returns-then-one_byte_forms
+returns-then-one_byte_forms c s e h =
     let d = c.before.before in
     let b = d.before.before.before in
-    let forms = b.one-byte-forms.ensures d.before.before.if2.true in
+    let forms = b.one_byte_forms.ensures d.before.before.if-one_byte_forms.true in
     let a = b.before.before.before.before.args in
-    let told = d.sum-bytes.ensures.0 in
+    let told = d.sum_bytes.ensures.0 in
     filled a.n a.buf.now a.out.now _ s e h
-    (quick_right d.sum-bytes.result a.out.now _ _ d.sum-bytes.ensures.1 (omega (arith, forms.some))).1
+    (quick_right d.sum_bytes.result a.out.now _ _ d.sum_bytes.ensures.1 (omega (arith, forms.some))).1
 
-sub-fill-all : tie.Need-overflow-sub-fill-all
-sub-fill-all c = search rules
+slice_bounds-fill_all-count : tie.Need-slice_bounds-fill_all-count
+slice_bounds-fill_all-count c = search rules
 
-part-fill-all-start : tie.Need-slice-bounds-fill-all-start
-part-fill-all-start c = search rules
+slice_bounds-fill_all-start : tie.Need-slice_bounds-fill_all-start
+slice_bounds-fill_all-start c = search rules
 
-part-fill-all-end : tie.Need-slice-bounds-fill-all-end
-part-fill-all-end c = search rules
+slice_bounds-fill_all-end : tie.Need-slice_bounds-fill_all-end
+slice_bounds-fill_all-end c = search rules
 
-fill-all-requires : tie.Need-fill-all-requires
-fill-all-requires c κs = search rules
+fill_all-requires : tie.Need-fill_all-requires
+fill_all-requires c κs = search rules
 
-same-length-2 : tie.Need-same-length-2
-same-length-2 c = search rules
+shape_of-out : tie.Need-shape_of-out
+shape_of-out c = search rules
 
-returns-3 : tie.Need-returns-3
-returns-3 c s e h =
+returns : tie.Need-returns
+returns c s e h =
     let f = c.before.before in
     let a = f.before.before.before.before.before.before.before.args in
     filled_front a.n a.buf.now a.out.now f.fill_all.new.1.1.0 s e (f.fill_all.ensures s e)
 
-pub fill-fk-delta-stream-spec : {M : Type 1} → statement M
-fill-fk-delta-stream-spec =
+pub fill_fk_delta_stream_spec : {M : Type 1} → statement M
+fill_fk_delta_stream_spec =
     tie.close
     (tie.spec
-    returns
-    one-byte-forms-requires
-    sum-bytes-requires
-    same_length
-    returns-2
-    sub-fill-all
-    part-fill-all-start
-    part-fill-all-end
-    fill-all-requires
-    same-length-2
-    returns-3)
+    returns-then-out-n
+    one_byte_forms-requires
+    sum_bytes-requires
+    shape_of-out-then-one_byte_forms
+    returns-then-one_byte_forms
+    slice_bounds-fill_all-count
+    slice_bounds-fill_all-start
+    slice_bounds-fill_all-end
+    fill_all-requires
+    shape_of-out
+    returns)

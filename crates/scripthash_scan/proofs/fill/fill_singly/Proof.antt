@@ -7,44 +7,44 @@ use Rattle.scripthash_scan.proofs.LawsFill.{filled, filled_whole, filled_summed}
 use Rattle.scripthash_scan.proofs.fill.fill_singly.Statement.{statement}
 use Rattle.scripthash_scan.proofs.fill.fill_singly.Tie as tie
 
-sum-forms-requires : tie.Need-sum-forms-requires
-sum-forms-requires c κs = search rules
+sum_forms-end-requires : tie.Need-sum_forms-end-requires
+sum_forms-end-requires c κs = search rules
 
-decode-in-two-passes-requires : tie.Need-decode-in-two-passes-requires
-decode-in-two-passes-requires c κs = search rules
+decode_in_two_passes-requires : tie.Need-decode_in_two_passes-requires
+decode_in_two_passes-requires c κs = search rules
 
-same_length : tie.Need-same-length
-same_length c = search rules
+shape_of-out-then-end-eq0 : tie.Need-shape_of-out-then-end-eq0
+shape_of-out-then-end-eq0 c = search rules
 
-returns : tie.Need-returns
-returns c s e =
+returns-then-end-eq0 : tie.Need-returns-then-end-eq0
+returns-then-end-eq0 c s e =
     let d = c.before.before in
     let q = d.before.before.before.before.before.before in
     let a = q.before.before.before.before.args in
-    let after = q.sum-forms.new.1.1.1.1.0 in
+    let after = q.sum_forms-end.new.1.1.1.1.0 in
     let size : length after ≡ a.n = search rules in
     filled_whole a.n a.buf.now after _ s e size (filled a.n a.buf.now after _ s e (omega arith)
-    d.decode-in-two-passes.ensures.1)
+    d.decode_in_two_passes.ensures.1)
 
-same-length-2 : tie.Need-same-length-2
-same-length-2 c = search rules
+shape_of-out-else-end-eq0 : tie.Need-shape_of-out-else-end-eq0
+shape_of-out-else-end-eq0 c = search rules
 
-returns-2 : tie.Need-returns-2
-returns-2 c s e =
+returns-else-end-eq0 : tie.Need-returns-else-end-eq0
+returns-else-end-eq0 c s e =
     let q = c.before.before.before.before in
     let a = q.before.before.before.before.args in
-    let after = q.sum-forms.new.1.1.1.1.0 in
+    let after = q.sum_forms-end.new.1.1.1.1.0 in
     let size : length after ≡ a.n = search rules in
-    filled_summed q.sum-forms.result.taken q.sum-forms.result.last a.n a.buf.now after s e q.sum-forms.ensures
-    (omega (arith, c.if1.false)) size
+    filled_summed q.sum_forms-end.result.taken q.sum_forms-end.result.last a.n a.buf.now after s e q.sum_forms-end.ensures
+    (omega (arith, c.if-end-eq0.false)) size
 
-pub fill-singly-spec : {M : Type 1} → statement M
-fill-singly-spec =
+pub fill_singly_spec : {M : Type 1} → statement M
+fill_singly_spec =
     tie.close
     (tie.spec
-    sum-forms-requires
-    decode-in-two-passes-requires
-    same_length
-    returns
-    same-length-2
-    returns-2)
+    sum_forms-end-requires
+    decode_in_two_passes-requires
+    shape_of-out-then-end-eq0
+    returns-then-end-eq0
+    shape_of-out-else-end-eq0
+    returns-else-end-eq0)

@@ -5,43 +5,43 @@ use Rattle.scripthash_scan.proofs.LawsFill.{short_none}
 use Rattle.scripthash_scan.proofs.fill.read_short_stream.Statement.{statement}
 use Rattle.scripthash_scan.proofs.fill.read_short_stream.Tie as tie
 
-one-byte-forms-requires : tie.Need-one-byte-forms-requires
-one-byte-forms-requires c κs = search rules
+one_byte_forms-requires : tie.Need-one_byte_forms-requires
+one_byte_forms-requires c κs = search rules
 
-read-bytes-requires : tie.Need-read-bytes-requires
-read-bytes-requires c κs = (c.before.before.one-byte-forms.ensures c.before.if2.true, omega arith)
+read_bytes-requires : tie.Need-read_bytes-requires
+read_bytes-requires c κs = (c.before.before.one_byte_forms.ensures c.before.if-one_byte_forms.true, omega arith)
 
-same_length : tie.Need-same-length
-same_length c = search rules
+shape_of-out-then-one_byte_forms : tie.Need-shape_of-out-then-one_byte_forms
+shape_of-out-then-one_byte_forms c = search rules
 
-returns : tie.Need-returns
-returns c = search rules
+returns-then-one_byte_forms : tie.Need-returns-then-one_byte_forms
+returns-then-one_byte_forms c = search rules
 
-read-forms-requires : tie.Need-read-forms-requires
-read-forms-requires c κs = search rules
+read_forms-requires : tie.Need-read_forms-requires
+read_forms-requires c κs = search rules
 
-same-length-2 : tie.Need-same-length-2
-same-length-2 c = search rules
+shape_of-out-then-n-le-SLAB_MOST : tie.Need-shape_of-out-then-n-le-SLAB_MOST
+shape_of-out-then-n-le-SLAB_MOST c = search rules
 
-returns-2 : tie.Need-returns-2
-returns-2 c = search rules
+returns-then-n-le-SLAB_MOST : tie.Need-returns-then-n-le-SLAB_MOST
+returns-then-n-le-SLAB_MOST c = search rules
 
-returns-3 : tie.Need-returns-3
-returns-3 c = short_none _ _ _
+returns-else-n-le-SLAB_MOST : tie.Need-returns-else-n-le-SLAB_MOST
+returns-else-n-le-SLAB_MOST c = short_none _ _ _
 
-returns-4 : tie.Need-returns-4
-returns-4 c = short_none _ _ _
+returns-else-n-out : tie.Need-returns-else-n-out
+returns-else-n-out c = short_none _ _ _
 
-pub read-short-stream-spec : {M : Type 1} → statement M
-read-short-stream-spec =
+pub read_short_stream_spec : {M : Type 1} → statement M
+read_short_stream_spec =
     tie.close
     (tie.spec
-    one-byte-forms-requires
-    read-bytes-requires
-    same_length
-    returns
-    read-forms-requires
-    same-length-2
-    returns-2
-    returns-3
-    returns-4)
+    one_byte_forms-requires
+    read_bytes-requires
+    shape_of-out-then-one_byte_forms
+    returns-then-one_byte_forms
+    read_forms-requires
+    shape_of-out-then-n-le-SLAB_MOST
+    returns-then-n-le-SLAB_MOST
+    returns-else-n-le-SLAB_MOST
+    returns-else-n-out)

@@ -5,50 +5,50 @@ use Rattle.scripthash_scan.proofs.LawsFill.{short_none, short_summed}
 use Rattle.scripthash_scan.proofs.fill.read_through.Statement.{statement}
 use Rattle.scripthash_scan.proofs.fill.read_through.Tie as tie
 
-sum-forms-requires : tie.Need-sum-forms-requires
-sum-forms-requires c κs = search rules
+sum_forms-end-requires : tie.Need-sum_forms-end-requires
+sum_forms-end-requires c κs = search rules
 
-same_length : tie.Need-same-length
-same_length c = search rules
+shape_of-space-then-end-eq0 : tie.Need-shape_of-space-then-end-eq0
+shape_of-space-then-end-eq0 c = search rules
+
+returns-then-end-eq0 : tie.Need-returns-then-end-eq0
+returns-then-end-eq0 c = short_none _ _ _
+
+shape_of-space-then-top-end : tie.Need-shape_of-space-then-top-end
+shape_of-space-then-top-end c = search rules
+
+returns-then-top-end : tie.Need-returns-then-top-end
+returns-then-top-end c = short_none _ _ _
+
+copy_fks-requires : tie.Need-copy_fks-requires
+copy_fks-requires c κs = search rules
+
+shape_of-space : tie.Need-shape_of-space
+shape_of-space c = search rules
+
+shape_of-out : tie.Need-shape_of-out
+shape_of-out c = search rules
 
 returns : tie.Need-returns
-returns c = short_none _ _ _
-
-same-length-2 : tie.Need-same-length-2
-same-length-2 c = search rules
-
-returns-2 : tie.Need-returns-2
-returns-2 c = short_none _ _ _
-
-copy-fks-requires : tie.Need-copy-fks-requires
-copy-fks-requires c κs = search rules
-
-same-length-3 : tie.Need-same-length-3
-same-length-3 c = search rules
-
-same-length-4 : tie.Need-same-length-4
-same-length-4 c = search rules
-
-returns-3 : tie.Need-returns-3
-returns-3 c =
+returns c =
     let e = c.before.before.before.before.before in
     let f = e.before.before in
     let q = f.before.before.before.before in
     let a = q.before.before.before.before.before.args in
-    short_summed q.sum-forms.result.taken q.sum-forms.result.last a.n a.buf.now _ q.sum-forms.ensures
-    (omega (arith, f.if1.false)) (omega arith)
-    a.top a.out.now _ e.if2.false (omega arith) c.before.before.copy-fks.ensures
+    short_summed q.sum_forms-end.result.taken q.sum_forms-end.result.last a.n a.buf.now _ q.sum_forms-end.ensures
+    (omega (arith, f.if-end-eq0.false)) (omega arith)
+    a.top a.out.now _ e.if-top-end.false (omega arith) c.before.before.copy_fks.ensures
 
-pub read-through-spec : {M : Type 1} → statement M
-read-through-spec =
+pub read_through_spec : {M : Type 1} → statement M
+read_through_spec =
     tie.close
     (tie.spec
-    sum-forms-requires
-    same_length
-    returns
-    same-length-2
-    returns-2
-    copy-fks-requires
-    same-length-3
-    same-length-4
-    returns-3)
+    sum_forms-end-requires
+    shape_of-space-then-end-eq0
+    returns-then-end-eq0
+    shape_of-space-then-top-end
+    returns-then-top-end
+    copy_fks-requires
+    shape_of-space
+    shape_of-out
+    returns)

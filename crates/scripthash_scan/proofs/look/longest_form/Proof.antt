@@ -6,43 +6,43 @@ use Rattle.scripthash_scan.proofs.LawsLongest.{longest_two, longest_three, longe
 use Rattle.scripthash_scan.proofs.look.longest_form.Statement.{statement}
 use Rattle.scripthash_scan.proofs.look.longest_form.Tie as tie
 
-look-two-requires : tie.Need-look-two-requires
-look-two-requires c κs = search rules
+look_two-requires : tie.Need-look_two-requires
+look_two-requires c κs = search rules
 
-returns : tie.Need-returns
-returns c h =
+returns-then-look_two : tie.Need-returns-then-look_two
+returns-then-look_two c h =
     let start = c.before.before.before.before in
     let a = start.args in
-    longest_two a.buf.now a.from a.to (c.before.look-two.ensures c.if2.true) (start.requires.3 (omega arith))
+    longest_two a.buf.now a.from a.to (c.before.look_two.ensures c.if-look_two.true) (start.requires.3 (omega arith))
 
-look-three-requires : tie.Need-look-three-requires
-look-three-requires c κs = search rules
+look_three-requires : tie.Need-look_three-requires
+look_three-requires c κs = search rules
 
-returns-2 : tie.Need-returns-2
-returns-2 c h =
+returns-then-look_three : tie.Need-returns-then-look_three
+returns-then-look_three c h =
     let start = c.before.before.before.before.before in
     let a = start.args in
-    longest_three a.buf.now a.from a.to (c.before.look-three.ensures c.if4.true) (start.requires.4 (omega arith))
+    longest_three a.buf.now a.from a.to (c.before.look_three.ensures c.if-look_three.true) (start.requires.4 (omega arith))
 
-look-five-requires : tie.Need-look-five-requires
-look-five-requires c κs = search rules
+look_five-requires : tie.Need-look_five-requires
+look_five-requires c κs = search rules
 
-returns-3 : tie.Need-returns-3
-returns-3 c h =
+returns-then-look_five : tie.Need-returns-then-look_five
+returns-then-look_five c h =
     let a = c.before.before.before.before.before.args in
-    longest_five a.buf.now a.from a.to (c.before.look-five.ensures c.if5.true)
+    longest_five a.buf.now a.from a.to (c.before.look_five.ensures c.if-look_five.true)
 
-returns-4 : tie.Need-returns-4
-returns-4 c h = absurd (not-suc-le-zero h)
+returns : tie.Need-returns
+returns c h = absurd (not-suc-le-zero h)
 
-pub longest-form-spec : {M : Type 1} → statement M
-longest-form-spec =
+pub longest_form_spec : {M : Type 1} → statement M
+longest_form_spec =
     tie.close
     (tie.spec
-    look-two-requires
-    returns
-    look-three-requires
-    returns-2
-    look-five-requires
-    returns-3
-    returns-4)
+    look_two-requires
+    returns-then-look_two
+    look_three-requires
+    returns-then-look_three
+    look_five-requires
+    returns-then-look_five
+    returns)

@@ -13,134 +13,134 @@ use Rattle.scripthash_scan.proofs.LawsLongest.{Looked, looked_next, looked_all}
 use Rattle.scripthash_scan.proofs.look.look_five.Statement.{statement}
 use Rattle.scripthash_scan.proofs.look.look_five.Tie as tie
 
-abbrev invariant_loop : tie.invariant_loop
+abbrev invariant_loop : tie.invariant-loop-i
 invariant_loop buf from to least₀ most₀ i₀ least most i =
     (4 ≤ from) × (from ≤ i) × (i ≤ to) × (to ≤ length buf) × Looked buf (five_go_on buf) least most from i
 
-abbrev decreases_loop : tie.decreases_loop
+abbrev decreases_loop : tie.decreases-loop-i
 decreases_loop buf from to least₀ most₀ i₀ least most i = to - i
 
-loop-holds : tie.Need-loop-init invariant_loop decreases_loop
-loop-holds c = (search rules, search rules, search rules, search rules, λ x p q. absurd (omega arith))
+loop-i-init : tie.Need-loop-i-init invariant_loop decreases_loop
+loop-i-init c = (search rules, search rules, search rules, search rules, λ x p q. absurd (omega arith))
 
-shared-slice-read-b : tie.Need-shared-slice-read-b invariant_loop decreases_loop
-shared-slice-read-b c = search rules
+bounds-buf-i : tie.Need-bounds-buf-i invariant_loop decreases_loop
+bounds-buf-i c = search rules
 
-sub-smaller : tie.Need-overflow-sub-smaller invariant_loop decreases_loop
-sub-smaller c = search rules
+overflow_sub-i : tie.Need-overflow_sub-i invariant_loop decreases_loop
+overflow_sub-i c = search rules
 
-shared-slice-read-smaller : tie.Need-shared-slice-read-smaller invariant_loop decreases_loop
-shared-slice-read-smaller c = search rules
+bounds-buf-i-in-loop-i : tie.Need-bounds-buf-i-in-loop-i invariant_loop decreases_loop
+bounds-buf-i-in-loop-i c = search rules
 
 smaller-requires : tie.Need-smaller-requires invariant_loop decreases_loop
 smaller-requires c κs = search rules
 
-sub-smaller-2 : tie.Need-overflow-sub-smaller-2 invariant_loop decreases_loop
-sub-smaller-2 c = search rules
+overflow_sub-i-in-loop-i : tie.Need-overflow_sub-i-in-loop-i invariant_loop decreases_loop
+overflow_sub-i-in-loop-i c = search rules
 
-shared-slice-read-smaller-2 : tie.Need-shared-slice-read-smaller-2 invariant_loop decreases_loop
-shared-slice-read-smaller-2 c = search rules
+bounds-buf-i-in-loop-i-2 : tie.Need-bounds-buf-i-in-loop-i-2 invariant_loop decreases_loop
+bounds-buf-i-in-loop-i-2 c = search rules
 
-smaller-requires-2 : tie.Need-smaller-requires-2 invariant_loop decreases_loop
-smaller-requires-2 c κs = search rules
+smaller-three-requires : tie.Need-smaller-three-requires invariant_loop decreases_loop
+smaller-three-requires c κs = search rules
 
-smaller-requires-3 : tie.Need-smaller-requires-3 invariant_loop decreases_loop
-smaller-requires-3 c κs = search rules
+smaller-least-requires : tie.Need-smaller-least-requires invariant_loop decreases_loop
+smaller-least-requires c κs = search rules
 
-sub-smaller-3 : tie.Need-overflow-sub-smaller-3 invariant_loop decreases_loop
-sub-smaller-3 c = search rules
+overflow_sub-i-in-loop-i-2 : tie.Need-overflow_sub-i-in-loop-i-2 invariant_loop decreases_loop
+overflow_sub-i-in-loop-i-2 c = search rules
 
-shared-slice-read-smaller-3 : tie.Need-shared-slice-read-smaller-3 invariant_loop decreases_loop
-shared-slice-read-smaller-3 c = search rules
+bounds-buf-i-in-loop-i-3 : tie.Need-bounds-buf-i-in-loop-i-3 invariant_loop decreases_loop
+bounds-buf-i-in-loop-i-3 c = search rules
 
-smaller-requires-4 : tie.Need-smaller-requires-4 invariant_loop decreases_loop
-smaller-requires-4 c κs = search rules
+smaller-requires-in-loop-i : tie.Need-smaller-requires-in-loop-i invariant_loop decreases_loop
+smaller-requires-in-loop-i c κs = search rules
 
-sub-smaller-4 : tie.Need-overflow-sub-smaller-4 invariant_loop decreases_loop
-sub-smaller-4 c = search rules
+overflow_sub-i-in-loop-i-3 : tie.Need-overflow_sub-i-in-loop-i-3 invariant_loop decreases_loop
+overflow_sub-i-in-loop-i-3 c = search rules
 
-shared-slice-read-smaller-4 : tie.Need-shared-slice-read-smaller-4 invariant_loop decreases_loop
-shared-slice-read-smaller-4 c = search rules
+bounds-buf-i-in-loop-i-4 : tie.Need-bounds-buf-i-in-loop-i-4 invariant_loop decreases_loop
+bounds-buf-i-in-loop-i-4 c = search rules
 
-smaller-requires-5 : tie.Need-smaller-requires-5 invariant_loop decreases_loop
-smaller-requires-5 c κs = search rules
+smaller-requires-in-loop-i-2 : tie.Need-smaller-requires-in-loop-i-2 invariant_loop decreases_loop
+smaller-requires-in-loop-i-2 c κs = search rules
 
-larger-requires : tie.Need-larger-requires invariant_loop decreases_loop
-larger-requires c κs = search rules
+larger-most-requires : tie.Need-larger-most-requires invariant_loop decreases_loop
+larger-most-requires c κs = search rules
 
-add-i : tie.Need-overflow-add-i invariant_loop decreases_loop
-add-i c = search rules
+overflow_add-i : tie.Need-overflow_add-i invariant_loop decreases_loop
+overflow_add-i c = search rules
 
-loop-less : tie.Need-loop-smaller invariant_loop decreases_loop
-loop-less c = search rules
+loop-i-smaller : tie.Need-loop-i-smaller invariant_loop decreases_loop
+loop-i-smaller c = search rules
 
 -- what a turn read
-module _ (c : tie.After-larger invariant_loop decreases_loop) where
-  abbrev loc : tie.At-loop invariant_loop decreases_loop
+module _ (c : tie.After-larger-most invariant_loop decreases_loop) where
+  abbrev loc : tie.At-loop-i invariant_loop decreases_loop
   loc = c.before.before.before.before.before.before.before.before.before.before.before.before
 
   abbrev bytes : List ℕ
   bytes = loc.before.before.args.buf.now
 
-  three : goes_on c.before.before.before.before.before.before.smaller2.result ≡ three_go_on bytes loc.loop.i
-  three = c.before.before.before.before.before.before.smaller2.ensures.2
-      ∙ ap (λ (g : Bool). g && goes_on (get_or bytes (loc.loop.i - 2) 0))
+  three : goes_on c.before.before.before.before.before.before.smaller-three.result ≡ three_go_on bytes loc.loop-i.i
+  three = c.before.before.before.before.before.before.smaller-three.ensures.2
+      ∙ ap (λ (g : Bool). g && goes_on (get_or bytes (loc.loop-i.i - 2) 0))
       c.before.before.before.before.before.before.before.before.smaller.ensures.2
 
-  four : goes_on c.before.before.before.smaller4.result ≡ three_go_on bytes loc.loop.i && goes_on (get_or bytes (loc.loop.i - 3) 0)
-  four = c.before.before.before.smaller4.ensures.2 ∙ ap (λ (g : Bool). g && goes_on (get_or bytes (loc.loop.i - 3) 0)) three
+  four : goes_on c.before.before.before.smaller-in-loop-i.result ≡ three_go_on bytes loc.loop-i.i && goes_on (get_or bytes (loc.loop-i.i - 3) 0)
+  four = c.before.before.before.smaller-in-loop-i.ensures.2 ∙ ap (λ (g : Bool). g && goes_on (get_or bytes (loc.loop-i.i - 3) 0)) three
 
-  five : goes_on c.before.smaller5.result ≡ five_go_on bytes loc.loop.i
-  five = c.before.smaller5.ensures.2 ∙ ap (λ (g : Bool). g && goes_on (get_or bytes (loc.loop.i - 4) 0)) four
+  five : goes_on c.before.smaller-in-loop-i-2.result ≡ five_go_on bytes loc.loop-i.i
+  five = c.before.smaller-in-loop-i-2.ensures.2 ∙ ap (λ (g : Bool). g && goes_on (get_or bytes (loc.loop-i.i - 4) 0)) four
 
-loop-again : tie.Need-loop-preserved invariant_loop decreases_loop
-loop-again c =
-    let l = (loc c).loop in
-    let least = c.before.before.before.before.before.smaller3 in (
+loop-i-preserved : tie.Need-loop-i-preserved invariant_loop decreases_loop
+loop-i-preserved c =
+    let l = (loc c).loop-i in
+    let least = c.before.before.before.before.before.smaller-least in (
       l.inv.0,
       search rules,
       search rules,
       l.inv.3,
       looked_next (bytes c) (five_go_on (bytes c)) (loc c).before.before.args.from l.i l.least l.most least.result
-          c.larger.result
-          c.before.smaller5.result l.inv.4 (least.ensures.0, least.ensures.1) c.larger.ensures (five c),
+          c.larger-most.result
+          c.before.smaller-in-loop-i-2.result l.inv.4 (least.ensures.0, least.ensures.1) c.larger-most.ensures (five c),
     )
 
-returns : tie.Need-returns invariant_loop decreases_loop
-returns c h = absurd (false≢true h)
+returns-then-least-eq0 : tie.Need-returns-then-least-eq0 invariant_loop decreases_loop
+returns-then-least-eq0 c h = absurd (false≢true h)
 
-returns-2 : tie.Need-returns-2 invariant_loop decreases_loop
-returns-2 c h =
-    let l = c.before.before.loop in
+returns : tie.Need-returns invariant_loop decreases_loop
+returns c h =
+    let l = c.before.before.loop-i in
     let a = c.before.before.before.before.args in
     let done : l.i ≡ a.to = omega arith in
     looked_all a.buf.now (five_go_on a.buf.now) a.from a.to l.least l.most (rw done at l.invariant.4) (omega arith)
     (ltb-true l.most 128 h)
 
-pub look-five-spec : {M : Type 1} → statement M
-look-five-spec =
+pub look_five_spec : {M : Type 1} → statement M
+look_five_spec =
     tie.close
     (tie.spec
     invariant_loop
     decreases_loop
-    loop-holds
-    shared-slice-read-b
-    sub-smaller
-    shared-slice-read-smaller
+    loop-i-init
+    bounds-buf-i
+    overflow_sub-i
+    bounds-buf-i-in-loop-i
     smaller-requires
-    sub-smaller-2
-    shared-slice-read-smaller-2
-    smaller-requires-2
-    smaller-requires-3
-    sub-smaller-3
-    shared-slice-read-smaller-3
-    smaller-requires-4
-    sub-smaller-4
-    shared-slice-read-smaller-4
-    smaller-requires-5
-    larger-requires
-    add-i
-    loop-less
-    loop-again
-    returns
-    returns-2)
+    overflow_sub-i-in-loop-i
+    bounds-buf-i-in-loop-i-2
+    smaller-three-requires
+    smaller-least-requires
+    overflow_sub-i-in-loop-i-2
+    bounds-buf-i-in-loop-i-3
+    smaller-requires-in-loop-i
+    overflow_sub-i-in-loop-i-3
+    bounds-buf-i-in-loop-i-4
+    smaller-requires-in-loop-i-2
+    larger-most-requires
+    overflow_add-i
+    loop-i-smaller
+    loop-i-preserved
+    returns-then-least-eq0
+    returns)

@@ -6,55 +6,55 @@ use Rattle.scripthash_scan.proofs.LawsFill.{short_quick}
 use Rattle.scripthash_scan.proofs.quick.decode_quickly.Statement.{statement}
 use Rattle.scripthash_scan.proofs.quick.decode_quickly.Tie as tie
 
-one-byte-forms-requires : tie.Need-one-byte-forms-requires
-one-byte-forms-requires c κs = search rules
+one_byte_forms-requires : tie.Need-one_byte_forms-requires
+one_byte_forms-requires c κs = search rules
 
-sum-bytes-requires : tie.Need-sum-bytes-requires
-sum-bytes-requires c κs = (c.before.before.one-byte-forms.ensures c.before.if2.true, omega arith)
+sum_bytes-requires : tie.Need-sum_bytes-requires
+sum_bytes-requires c κs = (c.before.before.one_byte_forms.ensures c.before.if-one_byte_forms.true, omega arith)
 
-same_length : tie.Need-same-length
-same_length c = search rules
+shape_of-out-then-one_byte_forms : tie.Need-shape_of-out-then-one_byte_forms
+shape_of-out-then-one_byte_forms c = search rules
 
-returns : tie.Need-returns
-returns c = c.before.before.sum-bytes.ensures.1
+returns-then-one_byte_forms : tie.Need-returns-then-one_byte_forms
+returns-then-one_byte_forms c = c.before.before.sum_bytes.ensures.1
 
-read-forms-requires : tie.Need-read-forms-requires
-read-forms-requires c κs = search rules
+read_forms-requires : tie.Need-read_forms-requires
+read_forms-requires c κs = search rules
 
-same-length-2 : tie.Need-same-length-2
-same-length-2 c = search rules
+shape_of-out-then-n-le-SLAB_MOST : tie.Need-shape_of-out-then-n-le-SLAB_MOST
+shape_of-out-then-n-le-SLAB_MOST c = search rules
 
-returns-2 : tie.Need-returns-2
-returns-2 c = short_quick _ _ _ _ _ _ (omega arith) c.before.before.read-forms.ensures
+returns-then-n-le-SLAB_MOST : tie.Need-returns-then-n-le-SLAB_MOST
+returns-then-n-le-SLAB_MOST c = short_quick _ _ _ _ _ _ (omega arith) c.before.before.read_forms.ensures
 
-decode-parts-requires : tie.Need-decode-parts-requires
-decode-parts-requires c κs = search rules
+decode_parts-requires : tie.Need-decode_parts-requires
+decode_parts-requires c κs = search rules
 
-same-length-3 : tie.Need-same-length-3
-same-length-3 c = search rules
+shape_of-out-then-n-le-PARTS_MOST : tie.Need-shape_of-out-then-n-le-PARTS_MOST
+shape_of-out-then-n-le-PARTS_MOST c = search rules
 
-returns-3 : tie.Need-returns-3
-returns-3 c = part_whole _ _ _ _ _ (omega arith) c.before.before.decode-parts.ensures
+returns-then-n-le-PARTS_MOST : tie.Need-returns-then-n-le-PARTS_MOST
+returns-then-n-le-PARTS_MOST c = part_whole _ _ _ _ _ (omega arith) c.before.before.decode_parts.ensures
 
-returns-4 : tie.Need-returns-4
-returns-4 c = quick_none _ _
+returns-else-n-le-PARTS_MOST : tie.Need-returns-else-n-le-PARTS_MOST
+returns-else-n-le-PARTS_MOST c = quick_none _ _
 
-returns-5 : tie.Need-returns-5
-returns-5 c = quick_none _ _
+returns-else-n-out : tie.Need-returns-else-n-out
+returns-else-n-out c = quick_none _ _
 
-pub decode-quickly-spec : {M : Type 1} → statement M
-decode-quickly-spec =
+pub decode_quickly_spec : {M : Type 1} → statement M
+decode_quickly_spec =
     tie.close
     (tie.spec
-    one-byte-forms-requires
-    sum-bytes-requires
-    same_length
-    returns
-    read-forms-requires
-    same-length-2
-    returns-2
-    decode-parts-requires
-    same-length-3
-    returns-3
-    returns-4
-    returns-5)
+    one_byte_forms-requires
+    sum_bytes-requires
+    shape_of-out-then-one_byte_forms
+    returns-then-one_byte_forms
+    read_forms-requires
+    shape_of-out-then-n-le-SLAB_MOST
+    returns-then-n-le-SLAB_MOST
+    decode_parts-requires
+    shape_of-out-then-n-le-PARTS_MOST
+    returns-then-n-le-PARTS_MOST
+    returns-else-n-le-PARTS_MOST
+    returns-else-n-out)

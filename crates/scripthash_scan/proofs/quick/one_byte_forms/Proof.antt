@@ -24,64 +24,64 @@ one_more buf low high k low' high' b l h i p =
     ⊎_elim (λ (q : i < k). let w = b i q in (omega arith, omega arith))
     (λ (q : k ≤ i). let e : i ≡ k = omega arith in rw e (l.1, h.1)) (lt_or_ge i k)
 
-abbrev invariant_loop : tie.invariant_loop
+abbrev invariant_loop : tie.invariant-loop-k
 invariant_loop buf n low₀ high₀ k₀ low high k = (k ≤ n) × (0 < n) × (n ≤ 65535) × (n ≤ length buf) × Between buf low high k
 
-abbrev decreases_loop : tie.decreases_loop
+abbrev decreases_loop : tie.decreases-loop-k
 decreases_loop buf n low₀ high₀ k₀ low high k = n - k
 
-returns : tie.Need-returns invariant_loop decreases_loop
-returns c h = absurd (false≢true h)
+returns-then-n-eq0 : tie.Need-returns-then-n-eq0 invariant_loop decreases_loop
+returns-then-n-eq0 c h = absurd (false≢true h)
 
-returns-2 : tie.Need-returns-2 invariant_loop decreases_loop
-returns-2 c h = absurd (false≢true h)
+returns-then-n-gt-MAX_OFFERED : tie.Need-returns-then-n-gt-MAX_OFFERED invariant_loop decreases_loop
+returns-then-n-gt-MAX_OFFERED c h = absurd (false≢true h)
 
-returns-3 : tie.Need-returns-3 invariant_loop decreases_loop
-returns-3 c h = absurd (false≢true h)
+returns-then-buf-n : tie.Need-returns-then-buf-n invariant_loop decreases_loop
+returns-then-buf-n c h = absurd (false≢true h)
 
-shared-slice-read-if4 : tie.Need-shared-slice-read-if4 invariant_loop decreases_loop
-shared-slice-read-if4 c = search rules
+bounds-buf-0 : tie.Need-bounds-buf-0 invariant_loop decreases_loop
+bounds-buf-0 c = search rules
 
-returns-4 : tie.Need-returns-4 invariant_loop decreases_loop
-returns-4 c h = absurd (false≢true h)
+returns-then-buf-ge128 : tie.Need-returns-then-buf-ge128 invariant_loop decreases_loop
+returns-then-buf-ge128 c h = absurd (false≢true h)
 
-loop-holds : tie.Need-loop-init invariant_loop decreases_loop
-loop-holds c = (search rules, search rules, search rules, search rules, λ i h. absurd (omega arith))
+loop-k-init : tie.Need-loop-k-init invariant_loop decreases_loop
+loop-k-init c = (search rules, search rules, search rules, search rules, λ i h. absurd (omega arith))
 
-shared-slice-read-b : tie.Need-shared-slice-read-b invariant_loop decreases_loop
-shared-slice-read-b c = search rules
+bounds-buf-k : tie.Need-bounds-buf-k invariant_loop decreases_loop
+bounds-buf-k c = search rules
 
-smaller-requires : tie.Need-smaller-requires invariant_loop decreases_loop
-smaller-requires c κs = search rules
+smaller-low-requires : tie.Need-smaller-low-requires invariant_loop decreases_loop
+smaller-low-requires c κs = search rules
 
-larger-requires : tie.Need-larger-requires invariant_loop decreases_loop
-larger-requires c κs = search rules
+larger-high-requires : tie.Need-larger-high-requires invariant_loop decreases_loop
+larger-high-requires c κs = search rules
 
-add-k : tie.Need-overflow-add-k invariant_loop decreases_loop
-add-k c = search rules
+overflow_add-k : tie.Need-overflow_add-k invariant_loop decreases_loop
+overflow_add-k c = search rules
 
-loop-less : tie.Need-loop-smaller invariant_loop decreases_loop
-loop-less c = search rules
+loop-k-smaller : tie.Need-loop-k-smaller invariant_loop decreases_loop
+loop-k-smaller c = search rules
 
-loop-again : tie.Need-loop-preserved invariant_loop decreases_loop
-loop-again c =
+loop-k-preserved : tie.Need-loop-k-preserved invariant_loop decreases_loop
+loop-k-preserved c =
     let w = c.before.before.before.before in
-    let l = w.loop in
+    let l = w.loop-k in
     let buf = w.before.before.before.before.before.before.before.args.buf.now in (
       search rules,
       l.invariant.1,
       l.invariant.2,
       l.invariant.3,
-      one_more buf l.low l.high l.k c.before.smaller.result c.larger.result l.invariant.4
-          (c.before.smaller.ensures.0, c.before.smaller.ensures.1) c.larger.ensures,
+      one_more buf l.low l.high l.k c.before.smaller-low.result c.larger-high.result l.invariant.4
+          (c.before.smaller-low.ensures.0, c.before.smaller-low.ensures.1) c.larger-high.ensures,
     )
 
-returns-5 : tie.Need-returns-5 invariant_loop decreases_loop
-returns-5 c h = absurd (false≢true h)
+returns-then-low-eq0 : tie.Need-returns-then-low-eq0 invariant_loop decreases_loop
+returns-then-low-eq0 c h = absurd (false≢true h)
 
-returns-6 : tie.Need-returns-6 invariant_loop decreases_loop
-returns-6 c h =
-    let l = c.before.before.loop in
+returns : tie.Need-returns invariant_loop decreases_loop
+returns c h =
+    let l = c.before.before.loop-k in
     let few : l.high < 128 = ltb-true l.high 128 h in
     record {
       some = l.invariant.1;
@@ -90,23 +90,23 @@ returns-6 c h =
       each = λ i p. let w = l.invariant.4 i (omega arith) in (omega arith, omega arith);
     }
 
-pub one-byte-forms-spec : {M : Type 1} → statement M
-one-byte-forms-spec =
+pub one_byte_forms_spec : {M : Type 1} → statement M
+one_byte_forms_spec =
     tie.close
     (tie.spec
     invariant_loop
     decreases_loop
-    returns
-    returns-2
-    returns-3
-    shared-slice-read-if4
-    returns-4
-    loop-holds
-    shared-slice-read-b
-    smaller-requires
-    larger-requires
-    add-k
-    loop-less
-    loop-again
-    returns-5
-    returns-6)
+    returns-then-n-eq0
+    returns-then-n-gt-MAX_OFFERED
+    returns-then-buf-n
+    bounds-buf-0
+    returns-then-buf-ge128
+    loop-k-init
+    bounds-buf-k
+    smaller-low-requires
+    larger-high-requires
+    overflow_add-k
+    loop-k-smaller
+    loop-k-preserved
+    returns-then-low-eq0
+    returns)

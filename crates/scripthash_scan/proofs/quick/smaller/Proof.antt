@@ -22,15 +22,15 @@ least_second a b h =
     ⊎_elim (λ (p : b < 128). rw (lt-leb 128 b p, and_no (leb 128 a)))
     (λ (p : 128 ≤ b). rw (le-leb 128 b p, le-leb 128 a (omega arith))) (lt_or_ge b 128)
 
-returns : tie.Need-returns
-returns c =
+returns-then-a-b : tie.Need-returns-then-a-b
+returns-then-a-b c =
     let a = c.before.args in
     (search rules, search rules, least_first a.a a.b (omega arith))
 
-returns-2 : tie.Need-returns-2
-returns-2 c =
+returns : tie.Need-returns
+returns c =
     let a = c.before.args in
     (search rules, search rules, least_second a.a a.b (omega arith))
 
-pub smaller-spec : {M : Type 1} → statement M
-smaller-spec = tie.close (tie.spec returns returns-2)
+pub smaller_spec : {M : Type 1} → statement M
+smaller_spec = tie.close (tie.spec returns-then-a-b returns)

@@ -14,59 +14,59 @@ use Rattle.scripthash_forms.proofs.LawsSums.{next_byte, Summed, summed_start, su
 use Rattle.scripthash_scan.proofs.quick.sum_bytes.Statement.{statement}
 use Rattle.scripthash_scan.proofs.quick.sum_bytes.Tie as tie
 
-abbrev invariant_loop : tie.invariant_loop
+abbrev invariant_loop : tie.invariant-loop-k
 invariant_loop buf n out₀ sum₀ k₀ out sum k =
     (k ≤ n) × OneByteForms buf n × (n ≤ length out₀) × (length out ≡ length out₀) × (sum ≤ 127 * k) × (drop k out ≡ drop k out₀)
     × Summed buf 0 0 n out sum k k
 
-abbrev decreases_loop : tie.decreases_loop
+abbrev decreases_loop : tie.decreases-loop-k
 decreases_loop buf n out₀ sum₀ k₀ out sum k = n - k
 
 -- the sum with the byte that is next
-module _ (c : tie.After-wide invariant_loop decreases_loop) where
-  abbrev loc : tie.At-loop invariant_loop decreases_loop
+module _ (c : tie.After-wide-sum invariant_loop decreases_loop) where
+  abbrev loc : tie.At-loop-k invariant_loop decreases_loop
   loc = c.before.before.before
 
   abbrev args : tie.Start invariant_loop decreases_loop
   args = loc.before.before.before
 
-  most : loc.loop.sum + c.wide.result ≤ 127 * (loc.loop.k + 1)
-  most = omega (arith, c.wide.ensures, (loc.loop.inv.1.each loc.loop.k (omega arith)).1)
+  most : loc.loop-k.sum + c.wide-sum.result ≤ 127 * (loc.loop-k.k + 1)
+  most = omega (arith, c.wide-sum.ensures, (loc.loop-k.invariant.1.each loc.loop-k.k (omega arith)).1)
 
-loop-holds : tie.Need-loop-init invariant_loop decreases_loop
-loop-holds c =
+loop-k-init : tie.Need-loop-k-init invariant_loop decreases_loop
+loop-k-init c =
     let a = c.before.before.args in
     (search rules, search rules, search rules, refl, search rules, refl, summed_start a.buf.now 0 0 a.n a.out.now)
 
-shared-slice-read-wide : tie.Need-shared-slice-read-wide invariant_loop decreases_loop
-shared-slice-read-wide c = omega (arith, c.before.before.loop.invariant.1.within)
+bounds-buf-k : tie.Need-bounds-buf-k invariant_loop decreases_loop
+bounds-buf-k c = omega (arith, c.before.before.loop-k.invariant.1.within)
 
-wide-requires : tie.Need-wide-requires invariant_loop decreases_loop
-wide-requires c κs = search rules
+wide-sum-requires : tie.Need-wide-sum-requires invariant_loop decreases_loop
+wide-sum-requires c κs = search rules
 
-add-sum : tie.Need-overflow-add-sum invariant_loop decreases_loop
-add-sum c = omega (arith, most c, (loc c).loop.invariant.1.few)
+overflow_add-sum : tie.Need-overflow_add-sum invariant_loop decreases_loop
+overflow_add-sum c = omega (arith, most c, (loc c).loop-k.invariant.1.few)
 
-mul-out : tie.Need-overflow-mul-out invariant_loop decreases_loop
-mul-out c = search rules
+offset_bounds-out-k : tie.Need-offset_bounds-out-k invariant_loop decreases_loop
+offset_bounds-out-k c = search rules
 
-slice-write-out : tie.Need-slice-write-out invariant_loop decreases_loop
-slice-write-out c = search rules
+bounds-out-k : tie.Need-bounds-out-k invariant_loop decreases_loop
+bounds-out-k c = search rules
 
-add-k : tie.Need-overflow-add-k invariant_loop decreases_loop
-add-k c = search rules
+overflow_add-k : tie.Need-overflow_add-k invariant_loop decreases_loop
+overflow_add-k c = search rules
 
-loop-less : tie.Need-loop-smaller invariant_loop decreases_loop
-loop-less c = search rules
+loop-k-smaller : tie.Need-loop-k-smaller invariant_loop decreases_loop
+loop-k-smaller c = search rules
 
-loop-again : tie.Need-loop-preserved invariant_loop decreases_loop
-loop-again c =
-    let l = (loc c).loop in
+loop-k-preserved : tie.Need-loop-k-preserved invariant_loop decreases_loop
+loop-k-preserved c =
+    let l = (loc c).loop-k in
     let a = (args c).args in
-    let x = l.sum + c.wide.result in
+    let x = l.sum + c.wide-sum.result in
     let next : next_number l.sum (drop l.k a.buf.now) ≡ accepted (record { value = x; len = 1 }) =
     next_byte a.buf.now a.n l.sum l.k l.inv.1 (omega arith) l.inv.4
-    ∙ ap (λ (b : ℕ). accepted (record { value = l.sum + b; len = 1 })) (sym c.wide.ensures) in (
+    ∙ ap (λ (b : ℕ). accepted (record { value = l.sum + b; len = 1 })) (sym c.wide-sum.ensures) in (
       search rules,
       l.inv.1,
       l.inv.2,
@@ -77,12 +77,12 @@ loop-again c =
       summed_next a.buf.now 0 0 a.n l.out l.sum l.k l.k l.inv.6 _ next (omega arith),
     )
 
-same_length : tie.Need-same-length invariant_loop decreases_loop
-same_length c = search rules
+shape_of-out : tie.Need-shape_of-out invariant_loop decreases_loop
+shape_of-out c = search rules
 
 returns : tie.Need-returns invariant_loop decreases_loop
 returns c =
-    let l = c.before.loop in
+    let l = c.before.loop-k in
     let a = c.before.before.before.before.args in
     let done : l.k ≡ a.n = omega arith in
     let sums = rw done at (summed_end a.buf.now 0 0 a.n l.out l.sum l.k l.k l.invariant.6 (sym done)
@@ -93,20 +93,20 @@ returns c =
           ∙ sums.numbers (omega arith) l.invariant.1.some) (omega arith) l.invariant.1.some),
     )
 
-pub sum-bytes-spec : {M : Type 1} → statement M
-sum-bytes-spec =
+pub sum_bytes_spec : {M : Type 1} → statement M
+sum_bytes_spec =
     tie.close
     (tie.spec
     invariant_loop
     decreases_loop
-    loop-holds
-    shared-slice-read-wide
-    wide-requires
-    add-sum
-    mul-out
-    slice-write-out
-    add-k
-    loop-less
-    loop-again
-    same_length
+    loop-k-init
+    bounds-buf-k
+    wide-sum-requires
+    overflow_add-sum
+    offset_bounds-out-k
+    bounds-out-k
+    overflow_add-k
+    loop-k-smaller
+    loop-k-preserved
+    shape_of-out
     returns)

@@ -12,61 +12,61 @@ use Rattle.scripthash_forms.proofs.LawsSums.{next_byte}
 use Rattle.scripthash_scan.proofs.quick.sum_of_bytes.Statement.{statement}
 use Rattle.scripthash_scan.proofs.quick.sum_of_bytes.Tie as tie
 
-abbrev invariant_loop : tie.invariant_loop
+abbrev invariant_loop : tie.invariant-loop-k
 invariant_loop buf n sum₀ k₀ sum k = (k ≤ n) × OneByteForms buf n × (sum ≤ 127 * k) × (ends_from k sum (n - k) (drop k buf)
     ≡ answered (end_from 0) (scan n buf))
 
-abbrev decreases_loop : tie.decreases_loop
+abbrev decreases_loop : tie.decreases-loop-k
 decreases_loop buf n sum₀ k₀ sum k = n - k
 
 -- the sum with the byte that is next
-module _ (c : tie.After-wide invariant_loop decreases_loop) where
-  abbrev loc : tie.At-loop invariant_loop decreases_loop
+module _ (c : tie.After-wide-sum invariant_loop decreases_loop) where
+  abbrev loc : tie.At-loop-k invariant_loop decreases_loop
   loc = c.before.before.before
 
   abbrev args : tie.Start invariant_loop decreases_loop
   args = loc.before.before
 
-  most : loc.loop.sum + c.wide.result ≤ 127 * (loc.loop.k + 1)
-  most = omega (arith, c.wide.ensures, (loc.loop.inv.1.each loc.loop.k (omega arith)).1)
+  most : loc.loop-k.sum + c.wide-sum.result ≤ 127 * (loc.loop-k.k + 1)
+  most = omega (arith, c.wide-sum.ensures, (loc.loop-k.invariant.1.each loc.loop-k.k (omega arith)).1)
 
-loop-holds : tie.Need-loop-init invariant_loop decreases_loop
-loop-holds c = (search rules, search rules, search rules, ends_start c.before.args.n c.before.args.buf.now)
+loop-k-init : tie.Need-loop-k-init invariant_loop decreases_loop
+loop-k-init c = (search rules, search rules, search rules, ends_start c.before.args.n c.before.args.buf.now)
 
-shared-slice-read-wide : tie.Need-shared-slice-read-wide invariant_loop decreases_loop
-shared-slice-read-wide c = omega (arith, c.before.before.loop.invariant.1.within)
+bounds-buf-k : tie.Need-bounds-buf-k invariant_loop decreases_loop
+bounds-buf-k c = omega (arith, c.before.before.loop-k.invariant.1.within)
 
-wide-requires : tie.Need-wide-requires invariant_loop decreases_loop
-wide-requires c κs = search rules
+wide-sum-requires : tie.Need-wide-sum-requires invariant_loop decreases_loop
+wide-sum-requires c κs = search rules
 
-add-sum : tie.Need-overflow-add-sum invariant_loop decreases_loop
-add-sum c = omega (arith, most c, (loc c).loop.invariant.1.few)
+overflow_add-sum : tie.Need-overflow_add-sum invariant_loop decreases_loop
+overflow_add-sum c = omega (arith, most c, (loc c).loop-k.invariant.1.few)
 
-add-k : tie.Need-overflow-add-k invariant_loop decreases_loop
-add-k c = search rules
+overflow_add-k : tie.Need-overflow_add-k invariant_loop decreases_loop
+overflow_add-k c = search rules
 
-loop-less : tie.Need-loop-smaller invariant_loop decreases_loop
-loop-less c = search rules
+loop-k-smaller : tie.Need-loop-k-smaller invariant_loop decreases_loop
+loop-k-smaller c = search rules
 
-loop-again : tie.Need-loop-preserved invariant_loop decreases_loop
-loop-again c =
-    let l = (loc c).loop in
+loop-k-preserved : tie.Need-loop-k-preserved invariant_loop decreases_loop
+loop-k-preserved c =
+    let l = (loc c).loop-k in
     let a = (args c).args in
     let next = next_byte a.buf.now a.n l.sum l.k l.inv.1 (omega arith) l.inv.2 in (
       search rules,
       l.inv.1,
       most c,
-      rw c.wide.ensures (ends_next a.buf.now a.n l.k l.sum l.k _ (omega arith) next ∙ l.inv.3),
+      rw c.wide-sum.ensures (ends_next a.buf.now a.n l.k l.sum l.k _ (omega arith) next ∙ l.inv.3),
     )
 
 returns : tie.Need-returns invariant_loop decreases_loop
 unfolding QuickEnd
 returns c h =
-    let l = c.before.loop in
+    let l = c.before.loop-k in
     let a = c.before.before.before.args in
     let done : l.k ≡ a.n = omega arith in
     rw done at (sym l.invariant.3 ∙ ends_now a.n l.k l.sum l.k (drop l.k a.buf.now) (omega arith))
 
-pub sum-of-bytes-spec : {M : Type 1} → statement M
-sum-of-bytes-spec = tie.close (tie.spec invariant_loop decreases_loop loop-holds shared-slice-read-wide wide-requires add-sum add-k loop-less loop-again
+pub sum_of_bytes_spec : {M : Type 1} → statement M
+sum_of_bytes_spec = tie.close (tie.spec invariant_loop decreases_loop loop-k-init bounds-buf-k wide-sum-requires overflow_add-sum overflow_add-k loop-k-smaller loop-k-preserved
     returns)

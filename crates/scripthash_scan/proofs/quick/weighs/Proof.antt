@@ -4,23 +4,23 @@ use borrow.Author.Rules.{rules}
 use Rattle.scripthash_scan.proofs.quick.weighs.Statement.{statement}
 use Rattle.scripthash_scan.proofs.quick.weighs.Tie as tie
 
-returns : tie.Need-returns
-returns c = search rules
+returns-then-n-ge-MANY : tie.Need-returns-then-n-ge-MANY
+returns-then-n-ge-MANY c = search rules
 
-returns-2 : tie.Need-returns-2
-returns-2 c h = absurd (false≢true h)
+returns-then-n-lt-SOME : tie.Need-returns-then-n-lt-SOME
+returns-then-n-lt-SOME c h = absurd (false≢true h)
 
-ends-early-requires : tie.Need-ends-early-requires
-ends-early-requires c κs = search rules
+ends_early-ends-requires : tie.Need-ends_early-ends-requires
+ends_early-ends-requires c κs = search rules
 
 mixed-requires : tie.Need-mixed-requires
 mixed-requires c κs = search rules
 
-returns-3 : tie.Need-returns-3
-returns-3 c = search rules
+returns-then-n-lt-MORE : tie.Need-returns-then-n-lt-MORE
+returns-then-n-lt-MORE c = search rules
 
-returns-4 : tie.Need-returns-4
-returns-4 c = search rules
+returns : tie.Need-returns
+returns c = search rules
 
-pub weighs-spec : {M : Type 1} → statement M
-weighs-spec = tie.close (tie.spec returns returns-2 ends-early-requires mixed-requires returns-3 returns-4)
+pub weighs_spec : {M : Type 1} → statement M
+weighs_spec = tie.close (tie.spec returns-then-n-ge-MANY returns-then-n-lt-SOME ends_early-ends-requires mixed-requires returns-then-n-lt-MORE returns)

@@ -17,7 +17,7 @@ use Rattle.scripthash_scan.proofs.streams.decode_fk_delta_stream_into.Statement.
 use Rattle.scripthash_scan.proofs.streams.decode_fk_delta_stream_into.Tie as tie
 
 -- the stream was read
-module _ (c : tie.After-read-stream) where
+module _ (c : tie.After-read_stream-got) where
   abbrev args : tie.Start
   args = c.before.before.before.before
 
@@ -32,69 +32,69 @@ module _ (c : tie.After-read-stream) where
     taken : scanned.taken ≡ len
     within : len ≤ length args.args.buf.now
 
-  read : (len : ℕ) → bytes_answer c.read-stream.result ≡ accepted len → Read len
+  read : (len : ℕ) → bytes_answer c.read_stream-got.result ≡ accepted len → Read len
   read len e =
-      let got = was_accepted (λ s. s.taken) decoded (sym c.read-stream.ensures.0 ∙ e) in
+      let got = was_accepted (λ s. s.taken) decoded (sym c.read_stream-got.ensures.0 ∙ e) in
       let scans = (decode_accepted (length args.args.out.now) _ _ got.1).0 in
       let known = scan_accepted 0 _ _ _ scans in
       record { scanned = got.0; is = got.1; scans = scans; taken = got.2; within = omega (arith, known.within, got.2) }
 
-read-stream-requires : tie.Need-read-stream-requires
-read-stream-requires c κs = search rules
+read_stream-got-requires : tie.Need-read_stream-got-requires
+read_stream-got-requires c κs = search rules
 
-enum-known-got : tie.Need-enum-known-got
-enum-known-got c = search rules
+enum_known-got : tie.Need-enum_known-got
+enum_known-got c = search rules
 
-enum_told : tie.Need-enum-told
-enum_told c = search rules
+enum_told-1 : tie.Need-enum_told-1
+enum_told-1 c = search rules
 
 refusal-requires : tie.Need-refusal-requires
 refusal-requires c κs = search rules
 
-same_length : tie.Need-same-length
-same_length c = search rules
+shape_of-out-in_default : tie.Need-shape_of-out-in_default
+shape_of-out-in_default c = search rules
+
+returns-in_default : tie.Need-returns-in_default
+returns-in_default c =
+    let d = c.before.before.before.before.before in
+    let told = c.before.enum_told-1.given in
+    let stop = was_refused (λ s. s.taken) (decoded d) (sym d.read_stream-got.ensures.0 ∙ ap bytes_answer told.1) in (
+      ap refused (c.refusal.ensures ∙ ap (λ (g : StreamBytes). refusal_of (bytes_answer g)) told.1)
+          ∙ sym (answered_no (stream_told (args d).args.n (args d).args.buf.now) (decoded d) stop),
+      d.read_stream-got.ensures.1,
+    )
+
+count_padded-requires : tie.Need-count_padded-requires
+count_padded-requires c κs =
+    let d = c.before.before.before.before.before in
+    (read d c.before.got-1.given.0.0 (ap bytes_answer c.before.got-1.given.1)).within
+
+shape_of-out : tie.Need-shape_of-out
+shape_of-out c = search rules
 
 returns : tie.Need-returns
 returns c =
-    let d = c.before.before.before.before.before in
-    let told = c.before.enum_told.given in
-    let stop = was_refused (λ s. s.taken) (decoded d) (sym d.read-stream.ensures.0 ∙ ap bytes_answer told.1) in (
-      ap refused (c.refusal.ensures ∙ ap (λ (g : StreamBytes). refusal_of (bytes_answer g)) told.1)
-          ∙ sym (answered_no (stream_told (args d).args.n (args d).args.buf.now) (decoded d) stop),
-      d.read-stream.ensures.1,
-    )
-
-count-padded-requires : tie.Need-count-padded-requires
-count-padded-requires c κs =
-    let d = c.before.before.before.before.before in
-    (read d c.before.got.given.0.0 (ap bytes_answer c.before.got.given.1)).within
-
-same-length-2 : tie.Need-same-length-2
-same-length-2 c = search rules
-
-returns-2 : tie.Need-returns-2
-returns-2 c =
     let k = c.before in
     let d = k.before.before.before.before.before in
-    let len = k.before.got.given.0.0 in
-    let r = read d len (ap bytes_answer k.before.got.given.1) in (
-      ap (λ (m : ℕ). accepted (record { taken = len; padded = m })) (c.count-padded.ensures r.scanned r.scans r.taken)
+    let len = k.before.got-1.given.0.0 in
+    let r = read d len (ap bytes_answer k.before.got-1.given.1) in (
+      ap (λ (m : ℕ). accepted (record { taken = len; padded = m })) (c.count_padded.ensures r.scanned r.scans r.taken)
           ∙ ap (λ (t : ℕ). accepted (record { taken = t; padded = padded_in (args d).args.n (args d).args.buf.now }))
           (sym r.taken)
           ∙ sym (answered_yes (stream_told (args d).args.n (args d).args.buf.now) (decoded d) r.is),
-      d.read-stream.ensures.1,
+      d.read_stream-got.ensures.1,
     )
 
-pub decode-fk-delta-stream-into-spec : {M : Type 1} → statement M
-decode-fk-delta-stream-into-spec =
+pub decode_fk_delta_stream_into_spec : {M : Type 1} → statement M
+decode_fk_delta_stream_into_spec =
     tie.close
     (tie.spec
-    read-stream-requires
-    enum-known-got
-    enum_told
+    read_stream-got-requires
+    enum_known-got
+    enum_told-1
     refusal-requires
-    same_length
-    returns
-    count-padded-requires
-    same-length-2
-    returns-2)
+    shape_of-out-in_default
+    returns-in_default
+    count_padded-requires
+    shape_of-out
+    returns)

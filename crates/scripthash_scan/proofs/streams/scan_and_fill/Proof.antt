@@ -13,33 +13,33 @@ use Rattle.scripthash_scan.proofs.streams.scan_and_fill.Statement.{statement}
 use Rattle.scripthash_scan.proofs.streams.scan_and_fill.Tie as tie
 
 -- a stream that scanned, and the scan
-module _ (c : tie.After-known-told) where
+module _ (c : tie.In-Scanned) where
   abbrev args : tie.Start
   args = c.before.before.before.before.before.before
 
   found : (s : Scan) × (scan args.args.n args.args.buf.now ≡ accepted s)
-      × (end_from 0 s ≡ record { taken = c.before.got.given.0.0; last = c.before.got.given.0.1.0 })
+      × (end_from 0 s ≡ record { taken = c.before.got-1.given.0.0; last = c.before.got-1.given.0.1.0 })
   found = was_accepted (end_from 0) (scan args.args.n args.args.buf.now) (sym
-      c.before.before.before.scan-fk-delta-stream.ensures
-      ∙ ap scan_answer c.before.got.given.1)
+      c.before.before.before.scan_fk_delta_stream-got.ensures
+      ∙ ap scan_answer c.before.got-1.given.1)
 
-scan-fk-delta-stream-requires : tie.Need-scan-fk-delta-stream-requires
-scan-fk-delta-stream-requires c κs = search rules
+scan_fk_delta_stream-got-requires : tie.Need-scan_fk_delta_stream-got-requires
+scan_fk_delta_stream-got-requires c κs = search rules
 
-enum-known-got : tie.Need-enum-known-got
-enum-known-got c = search rules
+enum_known-got : tie.Need-enum_known-got
+enum_known-got c = search rules
 
-enum_told : tie.Need-enum-told
-enum_told c = search rules
+enum_told-1 : tie.Need-enum_told-1
+enum_told-1 c = search rules
 
 refusal-requires : tie.Need-refusal-requires
 refusal-requires c κs = search rules
 
-returns : tie.Need-returns
-returns c =
-    let told = c.before.enum_told.given in
+returns-in_default : tie.Need-returns-in_default
+returns-in_default c =
+    let told = c.before.enum_told-1.given in
     let a = c.before.before.before.before.before.before.args in
-    let stop = was_refused (end_from 0) (scan a.n a.buf.now) (sym c.before.before.before.scan-fk-delta-stream.ensures
+    let stop = was_refused (end_from 0) (scan a.n a.buf.now) (sym c.before.before.before.scan_fk_delta_stream-got.ensures
     ∙ ap scan_answer told.1) in
     let answer = decode_refused (length a.out.now) a.n a.buf.now stop in (
       ap refused (c.refusal.ensures ∙ ap (λ (g : ScanStream). refusal_of (scan_answer g)) told.1)
@@ -47,38 +47,38 @@ returns c =
       sym (after_refused a.out.now _ answer),
     )
 
-returns-2 : tie.Need-returns-2
-returns-2 c =
+returns-then-out-n : tie.Need-returns-then-out-n
+returns-then-out-n c =
     let a = (args c.before).args in
     let answer = decode_short (length a.out.now) a.n a.buf.now (found c.before).1 (omega arith) in
     (sym (answered_no (λ s. s.taken) _ answer), sym (after_refused a.out.now _ answer))
 
-fill-fk-delta-stream-requires : tie.Need-fill-fk-delta-stream-requires
-fill-fk-delta-stream-requires c κs = search rules
+fill_fk_delta_stream-requires : tie.Need-fill_fk_delta_stream-requires
+fill_fk_delta_stream-requires c κs = search rules
 
-same_length : tie.Need-same-length
-same_length c = search rules
+shape_of-out : tie.Need-shape_of-out
+shape_of-out c = search rules
 
-returns-3 : tie.Need-returns-3
-returns-3 c =
+returns : tie.Need-returns
+returns c =
     let d = c.before.before.before.before.before in
     let a = (args d).args in
     let answer = decode_fits (length a.out.now) a.n a.buf.now (found d).1 (omega arith) in (
       ap accepted (sym (ap (λ (e : End). e.taken) (found d).2)) ∙ sym (answered_yes (λ s. s.taken) _ answer),
-      c.before.before.fill-fk-delta-stream.ensures (found d).0 (found d).1 (omega arith)
+      c.before.before.fill_fk_delta_stream.ensures (found d).0 (found d).1 (omega arith)
           ∙ sym (after_accepted a.out.now _ answer),
     )
 
-pub scan-and-fill-spec : {M : Type 1} → statement M
-scan-and-fill-spec =
+pub scan_and_fill_spec : {M : Type 1} → statement M
+scan_and_fill_spec =
     tie.close
     (tie.spec
-    scan-fk-delta-stream-requires
-    enum-known-got
-    enum_told
+    scan_fk_delta_stream-got-requires
+    enum_known-got
+    enum_told-1
     refusal-requires
-    returns
-    returns-2
-    fill-fk-delta-stream-requires
-    same_length
-    returns-3)
+    returns-in_default
+    returns-then-out-n
+    fill_fk_delta_stream-requires
+    shape_of-out
+    returns)

@@ -5,17 +5,17 @@ use Rattle.scripthash_forms.proofs.LawsTries.{quick_end_some}
 use Rattle.scripthash_scan.proofs.streams.scan_fk_delta_stream.Statement.{statement}
 use Rattle.scripthash_scan.proofs.streams.scan_fk_delta_stream.Tie as tie
 
-scan-quickly-requires : tie.Need-scan-quickly-requires
-scan-quickly-requires c κs = search rules
+scan_quickly-end-requires : tie.Need-scan_quickly-end-requires
+scan_quickly-end-requires c κs = search rules
+
+returns-then-end-gt0 : tie.Need-returns-then-end-gt0
+returns-then-end-gt0 c = quick_end_some _ _ _ c.before.before.scan_quickly-end.ensures (omega arith)
+
+scan_by_number-requires : tie.Need-scan_by_number-requires
+scan_by_number-requires c κs = search rules
 
 returns : tie.Need-returns
-returns c = quick_end_some _ _ _ c.before.before.scan-quickly.ensures (omega arith)
+returns c = search rules
 
-scan-by-number-requires : tie.Need-scan-by-number-requires
-scan-by-number-requires c κs = search rules
-
-returns-2 : tie.Need-returns-2
-returns-2 c = search rules
-
-pub scan-fk-delta-stream-spec : {M : Type 1} → statement M
-scan-fk-delta-stream-spec = tie.close (tie.spec scan-quickly-requires returns scan-by-number-requires returns-2)
+pub scan_fk_delta_stream_spec : {M : Type 1} → statement M
+scan_fk_delta_stream_spec = tie.close (tie.spec scan_quickly-end-requires returns-then-end-gt0 scan_by_number-requires returns)

@@ -5,11 +5,11 @@ use borrow.Author.Rules.{rules}
 use Rattle.scripthash_scan.proofs.weigh.behind.Statement.{statement}
 use Rattle.scripthash_scan.proofs.weigh.behind.Tie as tie
 
+returns-then-before-lt128 : tie.Need-returns-then-before-lt128
+returns-then-before-lt128 c = (rw (lt-leb 128 c.before.args.before (omega arith)), search rules)
+
 returns : tie.Need-returns
-returns c = (rw (lt-leb 128 c.before.args.before (omega arith)), search rules)
+returns c = (rw (le-leb 128 c.before.args.before (omega arith)), search rules)
 
-returns-2 : tie.Need-returns-2
-returns-2 c = (rw (le-leb 128 c.before.args.before (omega arith)), search rules)
-
-pub behind-spec : {M : Type 1} → statement M
-behind-spec = tie.close (tie.spec returns returns-2)
+pub behind_spec : {M : Type 1} → statement M
+behind_spec = tie.close (tie.spec returns-then-before-lt128 returns)

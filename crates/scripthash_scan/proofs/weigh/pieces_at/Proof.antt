@@ -7,44 +7,44 @@ use Rattle.scripthash_scan.proofs.LawsTotals.{behind_next}
 use Rattle.scripthash_scan.proofs.weigh.pieces_at.Statement.{statement}
 use Rattle.scripthash_scan.proofs.weigh.pieces_at.Tie as tie
 
-shared-slice-read-any : tie.Need-shared-slice-read-any
-shared-slice-read-any c = search rules
+bounds-buf-i : tie.Need-bounds-buf-i
+bounds-buf-i c = search rules
 
-sub-behind : tie.Need-overflow-sub-behind
-sub-behind c = search rules
+overflow_sub-i : tie.Need-overflow_sub-i
+overflow_sub-i c = search rules
 
-shared-slice-read-behind : tie.Need-shared-slice-read-behind
-shared-slice-read-behind c = search rules
+bounds-buf-i-2 : tie.Need-bounds-buf-i-2
+bounds-buf-i-2 c = search rules
 
-behind-requires : tie.Need-behind-requires
-behind-requires c κs = search rules
+behind-second-requires : tie.Need-behind-second-requires
+behind-second-requires c κs = search rules
 
-sub-behind-2 : tie.Need-overflow-sub-behind-2
-sub-behind-2 c = search rules
+overflow_sub-i-2 : tie.Need-overflow_sub-i-2
+overflow_sub-i-2 c = search rules
 
-shared-slice-read-behind-2 : tie.Need-shared-slice-read-behind-2
-shared-slice-read-behind-2 c = search rules
+bounds-buf-i-3 : tie.Need-bounds-buf-i-3
+bounds-buf-i-3 c = search rules
 
-behind-requires-2 : tie.Need-behind-requires-2
-behind-requires-2 c κs = search rules
+behind-third-requires : tie.Need-behind-third-requires
+behind-third-requires c κs = search rules
 
 returns : tie.Need-returns
 returns c =
     let a = c.before.before.before.before.before.before.args in
-    let second = c.before.before.behind.ensures in
-    let third = c.behind2.ensures in
+    let second = c.before.before.behind-second.ensures in
+    let third = c.behind-third.ensures in
     let both = behind_next a.buf.now a.i 2 (one_before a.buf.now a.i) third.0 second.0 in
     (refl, second.0, both, search rules, omega (arith, second.1), omega (arith, second.1, third.1))
 
-pub pieces-at-spec : {M : Type 1} → statement M
-pieces-at-spec =
+pub pieces_at_spec : {M : Type 1} → statement M
+pieces_at_spec =
     tie.close
     (tie.spec
-    shared-slice-read-any
-    sub-behind
-    shared-slice-read-behind
-    behind-requires
-    sub-behind-2
-    shared-slice-read-behind-2
-    behind-requires-2
+    bounds-buf-i
+    overflow_sub-i
+    bounds-buf-i-2
+    behind-second-requires
+    overflow_sub-i-2
+    bounds-buf-i-3
+    behind-third-requires
     returns)

@@ -5,52 +5,52 @@ use borrow.Author.Rules.{rules}
 use Rattle.scripthash_scan.proofs.weigh.scan_by_weights.Statement.{statement}
 use Rattle.scripthash_scan.proofs.weigh.scan_by_weights.Tie as tie
 
-leading-requires : tie.Need-leading-requires
-leading-requires c κs = search rules
+leading-lead-requires : tie.Need-leading-lead-requires
+leading-lead-requires c κs = search rules
 
-slice-aggregate-sum-forms : tie.Need-slice-aggregate-sum-forms
-slice-aggregate-sum-forms c = search rules
+slice_bounds-sum_forms-end : tie.Need-slice_bounds-sum_forms-end
+slice_bounds-sum_forms-end c = search rules
 
-sum-forms-requires : tie.Need-sum-forms-requires
-sum-forms-requires c κs = search rules
+sum_forms-first-requires : tie.Need-sum_forms-first-requires
+sum_forms-first-requires c κs = search rules
+
+returns-then-from-lt4 : tie.Need-returns-then-from-lt4
+returns-then-from-lt4 c = quick_end_none _
+
+overflow_sub-from : tie.Need-overflow_sub-from
+overflow_sub-from c = search rules
+
+bounds-buf-from : tie.Need-bounds-buf-from
+bounds-buf-from c = search rules
+
+returns-then-buf-from-ge128 : tie.Need-returns-then-buf-from-ge128
+returns-then-buf-from-ge128 c = quick_end_none _
+
+overflow_sub-n : tie.Need-overflow_sub-n
+overflow_sub-n c = search rules
+
+scan_rest-requires : tie.Need-scan_rest-requires
+scan_rest-requires c κs = search rules
 
 returns : tie.Need-returns
-returns c = quick_end_none _
-
-sub-if2 : tie.Need-overflow-sub-if2
-sub-if2 c = search rules
-
-shared-slice-read-if2 : tie.Need-shared-slice-read-if2
-shared-slice-read-if2 c = search rules
-
-returns-2 : tie.Need-returns-2
-returns-2 c = quick_end_none _
-
-sub-scan-rest : tie.Need-overflow-sub-scan-rest
-sub-scan-rest c = search rules
-
-scan-rest-requires : tie.Need-scan-rest-requires
-scan-rest-requires c κs = search rules
-
-returns-3 : tie.Need-returns-3
-returns-3 c =
+returns c =
     let f = c.before.before.before.before.before in
     let a = f.before.before.before.before.args in
-    quick_end_parts a.n f.before.before.leading.result f.sum-forms.result.taken f.sum-forms.result.last
-    c.scan-rest.result.taken c.scan-rest.result.last a.buf.now
-    (omega (arith, f.before.before.leading.ensures)) (omega arith) f.sum-forms.ensures.ends c.scan-rest.ensures
+    quick_end_parts a.n f.before.before.leading-lead.result f.sum_forms-first.result.taken f.sum_forms-first.result.last
+    c.scan_rest.result.taken c.scan_rest.result.last a.buf.now
+    (omega (arith, f.before.before.leading-lead.ensures)) (omega arith) f.sum_forms-first.ensures.ends c.scan_rest.ensures
 
-pub scan-by-weights-spec : {M : Type 1} → statement M
-scan-by-weights-spec =
+pub scan_by_weights_spec : {M : Type 1} → statement M
+scan_by_weights_spec =
     tie.close
     (tie.spec
-    leading-requires
-    slice-aggregate-sum-forms
-    sum-forms-requires
-    returns
-    sub-if2
-    shared-slice-read-if2
-    returns-2
-    sub-scan-rest
-    scan-rest-requires
-    returns-3)
+    leading-lead-requires
+    slice_bounds-sum_forms-end
+    sum_forms-first-requires
+    returns-then-from-lt4
+    overflow_sub-from
+    bounds-buf-from
+    returns-then-buf-from-ge128
+    overflow_sub-n
+    scan_rest-requires
+    returns)

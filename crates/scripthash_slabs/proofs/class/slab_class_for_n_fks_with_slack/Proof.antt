@@ -4,14 +4,14 @@ use borrow.Author.Rules.{rules}
 use Rattle.scripthash_slabs.proofs.class.slab_class_for_n_fks_with_slack.Statement.{statement}
 use Rattle.scripthash_slabs.proofs.class.slab_class_for_n_fks_with_slack.Tie as tie
 
-with-spare-requires : tie.Need-with-spare-requires
-with-spare-requires c κs = search rules
+with_spare-requires : tie.Need-with_spare-requires
+with_spare-requires c κs = search rules
 
-slab-class-for-n-fks-requires : tie.Need-slab-class-for-n-fks-requires
-slab-class-for-n-fks-requires c κs = search rules
+slab_class_for_n_fks-requires : tie.Need-slab_class_for_n_fks-requires
+slab_class_for_n_fks-requires c κs = search rules
 
 returns : tie.Need-returns
-returns c = c.slab-class-for-n-fks.ensures ∙ c.before.with-spare.ensures
+returns c = c.slab_class_for_n_fks.ensures ∙ c.before.with_spare.ensures
 
-pub slab-class-for-n-fks-with-slack-spec : {M : Type 1} → statement M
-slab-class-for-n-fks-with-slack-spec = tie.close (tie.spec with-spare-requires slab-class-for-n-fks-requires returns)
+pub slab_class_for_n_fks_with_slack_spec : {M : Type 1} → statement M
+slab_class_for_n_fks_with_slack_spec = tie.close (tie.spec with_spare-requires slab_class_for_n_fks-requires returns)

@@ -15,34 +15,34 @@ use Rattle.scripthash_slabs.proofs.class.smallest_class.Tie as tie
 abbrev in_units : ℕ → ℕ → ℕ → Rule
 in_units unit least most = record { size = λ c. unit * 2 ^ c; least = least; most = most }
 
-returns : tie.Need-returns
-returns c =
+returns-then-n-least : tie.Need-returns-then-n-least
+returns-then-n-least c =
     let a = c.before.args in
     sym (class_below (in_units a.unit a.least a.most) a.n (omega arith))
 
-returns-2 : tie.Need-returns-2
-returns-2 c =
+returns-then-n-most : tie.Need-returns-then-n-most
+returns-then-n-most c =
     let a = c.before.before.args in
     sym (class_above (in_units a.unit a.least a.most) a.n (omega arith))
 
-sub-zeros : tie.Need-overflow-sub-zeros
-sub-zeros c = search rules
+overflow_sub-zeros : tie.Need-overflow_sub-zeros
+overflow_sub-zeros c = search rules
 
-div-zeros : tie.Need-nonzero-div-zeros
-div-zeros c = search rules
+nonzero_div-zeros : tie.Need-nonzero_div-zeros
+nonzero_div-zeros c = search rules
 
-sub-t9 : tie.Need-overflow-sub-t9
-sub-t9 c = leading_le 64 _
+overflow_sub-result : tie.Need-overflow_sub-result
+overflow_sub-result c = leading_le 64 _
 
-cast-t10 : tie.Need-overflow-cast-t10
-cast-t10 c = search rules
+overflow_cast-result : tie.Need-overflow_cast-result
+overflow_cast-result c = search rules
 
-returns-3 : tie.Need-returns-3
-returns-3 c =
+returns : tie.Need-returns
+returns c =
     let a = c.before.before.args in
     let fits : (a.n - 1) / a.unit < 2 ^ 64 = lt_of_le_of_lt (div-le_self (a.n - 1) a.unit) (omega arith) in
     sym (class_bits (in_units a.unit a.least a.most) 64 a.unit (omega arith) (λ d. refl) (omega arith) a.n (omega arith)
     (omega arith) (omega arith) fits)
 
-pub smallest-class-spec : {M : Type 1} → statement M
-smallest-class-spec = tie.close (tie.spec returns returns-2 sub-zeros div-zeros sub-t9 cast-t10 returns-3)
+pub smallest_class_spec : {M : Type 1} → statement M
+smallest_class_spec = tie.close (tie.spec returns-then-n-least returns-then-n-most overflow_sub-zeros nonzero_div-zeros overflow_sub-result overflow_cast-result returns)

@@ -6,17 +6,17 @@ use Rattle.scripthash_slabs.proofs.LawsClass.{slack_next, slack_from}
 use Rattle.scripthash_slabs.proofs.class.with_spare.Statement.{statement}
 use Rattle.scripthash_slabs.proofs.class.with_spare.Tie as tie
 
-sub-if1 : tie.Need-overflow-sub-if1
-sub-if1 c = search rules
+overflow_sub-t-2 : tie.Need-overflow_sub-t-2
+overflow_sub-t-2 c = search rules
 
-add-result : tie.Need-overflow-add-result
-add-result c = search rules
+overflow_add-result : tie.Need-overflow_add-result
+overflow_add-result c = search rules
 
-returns : tie.Need-returns
-returns c = sym (slack_next c.before.args.n (λ z. omega arith))
+returns-then-n : tie.Need-returns-then-n
+returns-then-n c = sym (slack_next c.before.args.n (λ z. omega arith))
 
-returns-2 : tie.Need-returns-2
-returns-2 c = sym (slack_from c.before.args.n (omega arith))
+returns-else-n : tie.Need-returns-else-n
+returns-else-n c = sym (slack_from c.before.args.n (omega arith))
 
-pub with-spare-spec : {M : Type 1} → statement M
-with-spare-spec = tie.close (tie.spec sub-if1 add-result returns returns-2)
+pub with_spare_spec : {M : Type 1} → statement M
+with_spare_spec = tie.close (tie.spec overflow_sub-t-2 overflow_add-result returns-then-n returns-else-n)

@@ -21,7 +21,7 @@ use Rattle.scripthash_slabs.proofs.payload.decode_slab_payload_into.Statement.{s
 use Rattle.scripthash_slabs.proofs.payload.decode_slab_payload_into.Tie as tie
 
 -- the stream's decoder was lent the part after two bytes
-module _ (c : tie.After-decode-fk-delta-stream-into) where
+module _ (c : tie.After-decode_fk_delta_stream_into-got) where
   abbrev at : tie.Start
   at = c.before.before.before.before.before.before.before
 
@@ -34,20 +34,20 @@ module _ (c : tie.After-decode-fk-delta-stream-into) where
   abbrev decoded : Answer Scan
   decoded = decode_slab (length out) bytes
 
-  slab : decode_stream (length out) c.before.before.before.get-u16.result (take (length bytes - 2) (drop 2 bytes)) ≡ decoded
+  slab : decode_stream (length out) c.before.before.before.get_u16-used.result (take (length bytes - 2) (drop 2 bytes)) ≡ decoded
   slab =
-      ap (decode_stream (length out) c.before.before.before.get-u16.result) (part_to_end bytes 2)
-      ∙ ap (λ (n : ℕ). decode_stream (length out) n (drop 2 bytes)) c.before.before.before.get-u16.ensures
+      ap (decode_stream (length out) c.before.before.before.get_u16-used.result) (part_to_end bytes 2)
+      ∙ ap (λ (n : ℕ). decode_stream (length out) n (drop 2 bytes)) c.before.before.before.get_u16-used.ensures
       ∙ sym (unslab_as_stream (length out) bytes (omega arith))
 
   abbrev rest : List ℕ
   rest = take (length bytes - 2) (drop 2 bytes)
 
   abbrev used : ℕ
-  used = c.before.before.before.get-u16.result
+  used = c.before.before.before.get_u16-used.result
 
-  answer : stream_read_answer c.decode-fk-delta-stream-into.result ≡ answered (stream_told used rest) decoded
-  answer = c.decode-fk-delta-stream-into.ensures.0 ∙ ap (answered (stream_told used rest)) slab
+  answer : stream_read_answer c.decode_fk_delta_stream_into-got.result ≡ answered (stream_told used rest) decoded
+  answer = c.decode_fk_delta_stream_into-got.ensures.0 ∙ ap (answered (stream_told used rest)) slab
 
   -- what a stream that was read tells
   record Read (len padded : ℕ) : Type 0 where
@@ -55,10 +55,10 @@ module _ (c : tie.After-decode-fk-delta-stream-into) where
     is : decoded ≡ accepted scanned
     taken : scanned.taken ≡ len
     counts : padded ≡ slab_padded bytes
-    counted : length scanned.numbers ≡ c.before.before.before.get-u16.result
+    counted : length scanned.numbers ≡ c.before.before.before.get_u16-used.result
     within : len ≤ length bytes - 2
 
-  read : (len padded : ℕ) → stream_read_answer c.decode-fk-delta-stream-into.result ≡ accepted (record { taken = len; padded = padded })
+  read : (len padded : ℕ) → stream_read_answer c.decode_fk_delta_stream_into-got.result ≡ accepted (record { taken = len; padded = padded })
       → Read len padded
   unfolding slab_padded
   read len padded e =
@@ -70,80 +70,80 @@ module _ (c : tie.After-decode-fk-delta-stream-into) where
         is = got.1;
         taken = ap (λ (t : StreamTold). t.taken) got.2;
         counts = sym (ap (λ (t : StreamTold). t.padded) got.2) ∙ ap (padded_in used) (part_to_end bytes 2)
-            ∙ ap (λ (n : ℕ). padded_in n (drop 2 bytes)) c.before.before.before.get-u16.ensures;
+            ∙ ap (λ (n : ℕ). padded_in n (drop 2 bytes)) c.before.before.before.get_u16-used.ensures;
         counted = known.counted;
         within = omega (arith, ap (λ (t : StreamTold). t.taken) got.2);
       }
 
-  list : c.decode-fk-delta-stream-into.new.1.1.0 ≡ after_decode out decoded
-  list = c.decode-fk-delta-stream-into.ensures.1 ∙ ap (after_decode out) slab
+  list : c.decode_fk_delta_stream_into-got.new.1.1.0 ≡ after_decode out decoded
+  list = c.decode_fk_delta_stream_into-got.ensures.1 ∙ ap (after_decode out) slab
 
-returns : tie.Need-returns
-returns c =
+returns-then-buf-lt2 : tie.Need-returns-then-buf-lt2
+returns-then-buf-lt2 c =
     let a = c.before.before.before.args in
     let short = unslab_short (length a.out.now) a.buf.now (omega arith) in (
       sym (answered_no (slab_list_of a.buf.now) (decode_slab (length a.out.now) a.buf.now) short),
       sym (after_refused a.out.now (decode_slab (length a.out.now) a.buf.now) short),
     )
 
-get-u16-requires : tie.Need-get-u16-requires
-get-u16-requires c κs = search rules
+get_u16-used-requires : tie.Need-get_u16-used-requires
+get_u16-used-requires c κs = search rules
 
-cast-used : tie.Need-overflow-cast-used
-cast-used c = search rules
+overflow_cast-used : tie.Need-overflow_cast-used
+overflow_cast-used c = search rules
 
-sub-decode-fk-delta-stream-into : tie.Need-overflow-sub-decode-fk-delta-stream-into
-sub-decode-fk-delta-stream-into c = search rules
+slice_bounds-decode_fk_delta_stream_into-count : tie.Need-slice_bounds-decode_fk_delta_stream_into-count
+slice_bounds-decode_fk_delta_stream_into-count c = search rules
 
-part-decode-fk-delta-stream-into-start : tie.Need-slice-bounds-decode-fk-delta-stream-into-start
-part-decode-fk-delta-stream-into-start c = search rules
+slice_bounds-decode_fk_delta_stream_into-start : tie.Need-slice_bounds-decode_fk_delta_stream_into-start
+slice_bounds-decode_fk_delta_stream_into-start c = search rules
 
-part-decode-fk-delta-stream-into-end : tie.Need-slice-bounds-decode-fk-delta-stream-into-end
-part-decode-fk-delta-stream-into-end c = search rules
+slice_bounds-decode_fk_delta_stream_into-end : tie.Need-slice_bounds-decode_fk_delta_stream_into-end
+slice_bounds-decode_fk_delta_stream_into-end c = search rules
 
-decode-fk-delta-stream-into-requires : tie.Need-decode-fk-delta-stream-into-requires
-decode-fk-delta-stream-into-requires c κs = search rules
+decode_fk_delta_stream_into-got-requires : tie.Need-decode_fk_delta_stream_into-got-requires
+decode_fk_delta_stream_into-got-requires c κs = search rules
 
-enum-known-got : tie.Need-enum-known-got
-enum-known-got c = search rules
+enum_known-got : tie.Need-enum_known-got
+enum_known-got c = search rules
 
-enum_told : tie.Need-enum-told
-enum_told c = search rules
+enum_told-1 : tie.Need-enum_told-1
+enum_told-1 c = search rules
 
 refusal-requires : tie.Need-refusal-requires
 refusal-requires c κs = search rules
 
-same_length : tie.Need-same-length
-same_length c = search rules
+shape_of-out-in_default : tie.Need-shape_of-out-in_default
+shape_of-out-in_default c = search rules
 
-returns-2 : tie.Need-returns-2
-returns-2 c =
+returns-in_default : tie.Need-returns-in_default
+returns-in_default c =
     let d = c.before.before.before.before.before in
-    let told = c.before.enum_told.given in
+    let told = c.before.enum_told-1.given in
     let stop = was_refused (stream_told (used d) (rest d)) (decoded d) (sym (answer d) ∙ ap stream_read_answer told.1) in (
       ap refused (c.refusal.ensures ∙ ap (λ (g : StreamRead). refusal_of (stream_read_answer g)) told.1)
           ∙ sym (answered_no (slab_list_of (bytes d)) (decoded d) stop),
       list d,
     )
 
-add-t7 : tie.Need-overflow-add-t7
-add-t7 c =
+overflow_add-result : tie.Need-overflow_add-result
+overflow_add-result c =
     let d = c.before.before.before.before.before in
     omega (
       arith,
-      (read d c.before.got.given.0.0 c.before.got.given.0.1.0
-          (ap stream_read_answer c.before.got.given.1)).within,
+      (read d c.before.got-1.given.0.0 c.before.got-1.given.0.1.0
+          (ap stream_read_answer c.before.got-1.given.1)).within,
     )
 
-same-length-2 : tie.Need-same-length-2
-same-length-2 c = search rules
+shape_of-out : tie.Need-shape_of-out
+shape_of-out c = search rules
 
-returns-3 : tie.Need-returns-3
-returns-3 c =
+returns : tie.Need-returns
+returns c =
     let d = c.before.before.before.before.before in
-    let len = c.before.got.given.0.0 in
-    let padded = c.before.got.given.0.1.0 in
-    let r = read d len padded (ap stream_read_answer c.before.got.given.1) in (
+    let len = c.before.got-1.given.0.0 in
+    let padded = c.before.got-1.given.0.1.0 in
+    let r = read d len padded (ap stream_read_answer c.before.got-1.given.1) in (
       ap (λ (u : ℕ). accepted (record { used = u; len = 2 + len; padded = padded })) (sym r.counted)
           ∙ ap (λ (t : ℕ). accepted (record { used = length r.scanned.numbers; len = 2 + t; padded = padded })) (sym r.taken)
           ∙ ap (λ (m : ℕ). accepted (record { used = length r.scanned.numbers; len = 2 + r.scanned.taken; padded = m })) r.counts
@@ -151,22 +151,22 @@ returns-3 c =
       list d,
     )
 
-pub decode-slab-payload-into-spec : {M : Type 1} → statement M
-decode-slab-payload-into-spec =
+pub decode_slab_payload_into_spec : {M : Type 1} → statement M
+decode_slab_payload_into_spec =
     tie.close
     (tie.spec
-    returns
-    get-u16-requires
-    cast-used
-    sub-decode-fk-delta-stream-into
-    part-decode-fk-delta-stream-into-start
-    part-decode-fk-delta-stream-into-end
-    decode-fk-delta-stream-into-requires
-    enum-known-got
-    enum_told
+    returns-then-buf-lt2
+    get_u16-used-requires
+    overflow_cast-used
+    slice_bounds-decode_fk_delta_stream_into-count
+    slice_bounds-decode_fk_delta_stream_into-start
+    slice_bounds-decode_fk_delta_stream_into-end
+    decode_fk_delta_stream_into-got-requires
+    enum_known-got
+    enum_told-1
     refusal-requires
-    same_length
-    returns-2
-    add-t7
-    same-length-2
-    returns-3)
+    shape_of-out-in_default
+    returns-in_default
+    overflow_add-result
+    shape_of-out
+    returns)

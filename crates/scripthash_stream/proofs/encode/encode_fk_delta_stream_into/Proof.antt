@@ -15,73 +15,73 @@ use Rattle.scripthash_stream.proofs.encode.encode_fk_delta_stream_into.Statement
 use Rattle.scripthash_stream.proofs.encode.encode_fk_delta_stream_into.Tie as tie
 
 -- a list that was judged well
-module _ (c : tie.After-known-told) where
+module _ (c : tie.In-Bytes) where
   abbrev args : tie.Start
   args = c.before.before.before.before.before.before
 
   abbrev fks : List ℕ
   fks = args.args.fks.now
 
-  is : judged 0 fks (accepted (stream_len fks)) ≡ accepted c.before.got.given.0.0
-  is = sym c.before.before.before.measure-fks.ensures ∙ ap bytes_answer c.before.got.given.1
+  is : judged 0 fks (accepted (stream_len fks)) ≡ accepted c.before.got-1.given.0.0
+  is = sym c.before.before.before.measure_fks-got.ensures ∙ ap bytes_answer c.before.got-1.given.1
 
   rises : Rising (2 ^ 63) 0 fks
   rises = (judged_accepted 0 fks (accepted (stream_len fks)) is).0
 
-  long : stream_len fks ≡ c.before.got.given.0.0
+  long : stream_len fks ≡ c.before.got-1.given.0.0
   long = accepted_inj (judged_accepted 0 fks (accepted (stream_len fks)) is).1
 
-measure-fks-requires : tie.Need-measure-fks-requires
-measure-fks-requires c κs = search rules
+measure_fks-got-requires : tie.Need-measure_fks-got-requires
+measure_fks-got-requires c κs = search rules
 
-enum-known-got : tie.Need-enum-known-got
-enum-known-got c = search rules
+enum_known-got : tie.Need-enum_known-got
+enum_known-got c = search rules
 
-enum_told : tie.Need-enum-told
-enum_told c = search rules
+enum_told-1 : tie.Need-enum_told-1
+enum_told-1 c = search rules
 
-returns : tie.Need-returns
-returns c =
-    let told = c.enum_told.given in
+returns-in_default : tie.Need-returns-in_default
+returns-in_default c =
+    let told = c.enum_told-1.given in
     let a = c.before.before.before.before.before.args in
     let out = a.out.now in
     let ns = a.fks.now in
     let answer : encode_stream (length out) ns ≡ refused told.0.0 =
-    encode_refused (length out) ns (sym c.before.before.measure-fks.ensures ∙ ap bytes_answer told.1) in
+    encode_refused (length out) ns (sym c.before.before.measure_fks-got.ensures ∙ ap bytes_answer told.1) in
     (ap bytes_answer told.1 ∙ sym answer, sym (after_encode_no out ns (encode_stream (length out) ns) answer))
 
-returns-2 : tie.Need-returns-2
-returns-2 c =
+returns-then-out-len : tie.Need-returns-then-out-len
+returns-then-out-len c =
     let d = c.before in
     let out = (args d).args.out.now in
     let answer = encode_short (length out) (fks d) (rises d) (omega (arith, long d)) in
     (sym answer, sym (after_encode_no out (fks d) (encode_stream (length out) (fks d)) answer))
 
-put-fks-requires : tie.Need-put-fks-requires
-put-fks-requires c κs = (rises c.before.before, omega (arith, long c.before.before))
+put_fks-requires : tie.Need-put_fks-requires
+put_fks-requires c κs = (rises c.before.before, omega (arith, long c.before.before))
 
-same_length : tie.Need-same-length
-same_length c = search rules
+shape_of-out : tie.Need-shape_of-out
+shape_of-out c = search rules
 
-returns-3 : tie.Need-returns-3
-returns-3 c =
+returns : tie.Need-returns
+returns c =
     let d = c.before.before.before.before.before in
     let out = (args d).args.out.now in
     let answer = encode_fits (length out) (fks d) (rises d) (omega (arith, long d)) in (
       ap accepted (sym (long d)) ∙ sym answer,
-      c.before.before.put-fks.ensures
+      c.before.before.put_fks.ensures
           ∙ sym (after_encode_yes out (fks d) (encode_stream (length out) (fks d)) answer),
     )
 
-pub encode-fk-delta-stream-into-spec : {M : Type 1} → statement M
-encode-fk-delta-stream-into-spec =
+pub encode_fk_delta_stream_into_spec : {M : Type 1} → statement M
+encode_fk_delta_stream_into_spec =
     tie.close
     (tie.spec
-    measure-fks-requires
-    enum-known-got
-    enum_told
-    returns
-    returns-2
-    put-fks-requires
-    same_length
-    returns-3)
+    measure_fks-got-requires
+    enum_known-got
+    enum_told-1
+    returns-in_default
+    returns-then-out-len
+    put_fks-requires
+    shape_of-out
+    returns)

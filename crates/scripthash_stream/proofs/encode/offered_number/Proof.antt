@@ -14,15 +14,15 @@ use Rattle.scripthash_stream.proofs.LawsEncode.{and_no, judged_rising}
 use Rattle.scripthash_stream.proofs.encode.offered_number.Statement.{statement}
 use Rattle.scripthash_stream.proofs.encode.offered_number.Tie as tie
 
-returns : tie.Need-returns
+returns-then-prev-eq0 : tie.Need-returns-then-prev-eq0
 unfolding judged refuse_if
-returns c =
+returns-then-prev-eq0 c =
     let a = c.before.before.args in
     rw (eq-eqb a.prev 0 (omega arith), eq-eqb a.fk 0 (omega arith))
 
-returns-2 : tie.Need-returns-2
+returns-then-fk-prev : tie.Need-returns-then-fk-prev
 unfolding judged refuse_if
-returns-2 c =
+returns-then-fk-prev c =
     let a = c.before.before.args in
     rw (
       ne_eqb a.prev 0 (λ (e : a.prev ≡ 0). omega arith),
@@ -30,25 +30,25 @@ returns-2 c =
       le-leb a.fk a.prev (omega arith),
     )
 
-returns-3 : tie.Need-returns-3
+returns-then-fk-ge-BIT_63 : tie.Need-returns-then-fk-ge-BIT_63
 unfolding judged refuse_if
-returns-3 c =
+returns-then-fk-ge-BIT_63 c =
     let a = c.before.before.args in
     rw (and_no (eqb a.prev 0) (eqb a.fk 0) (ne_eqb a.fk 0 (λ (e : a.fk ≡ 0). omega arith)), le-leb (2 ^ 63) a.fk (omega arith))
 
-sub-uleb128-len : tie.Need-overflow-sub-uleb128-len
-sub-uleb128-len c = search rules
+overflow_sub-fk : tie.Need-overflow_sub-fk
+overflow_sub-fk c = search rules
 
-uleb128-len-requires : tie.Need-uleb128-len-requires
-uleb128-len-requires c κs = search rules
+uleb128_len-requires : tie.Need-uleb128_len-requires
+uleb128_len-requires c κs = search rules
 
-returns-4 : tie.Need-returns-4
+returns : tie.Need-returns
 unfolding Rising
-returns-4 c =
+returns c =
     let a = c.before.before.before.args in
-    ap accepted c.uleb128-len.ensures ∙ sym (judged_rising a.prev (a.fk ∷ []) (accepted (uleb_len (a.fk - a.prev)))
+    ap accepted c.uleb128_len.ensures ∙ sym (judged_rising a.prev (a.fk ∷ []) (accepted (uleb_len (a.fk - a.prev)))
     (omega arith, omega arith, tt))
 
-pub offered-number-spec : {M : Type 1} → statement M
-offered-number-spec =
-    tie.close (tie.spec returns returns-2 returns-3 sub-uleb128-len uleb128-len-requires returns-4)
+pub offered_number_spec : {M : Type 1} → statement M
+offered_number_spec =
+    tie.close (tie.spec returns-then-prev-eq0 returns-then-fk-prev returns-then-fk-ge-BIT_63 overflow_sub-fk uleb128_len-requires returns)

@@ -16,13 +16,13 @@ use Rattle.scripthash_stream.proofs.LawsStream.{front}
 use Rattle.scripthash_stream.proofs.encode.put_fks.Statement.{statement}
 use Rattle.scripthash_stream.proofs.encode.put_fks.Tie as tie
 
-abbrev invariant_loop : tie.invariant_loop
+abbrev invariant_loop : tie.invariant-loop-k
 invariant_loop out₀ fks prev₀ off₀ k₀ out prev off k =
     (k ≤ length fks) × Rising (2 ^ 63) prev (drop k fks) × (length out ≡ length out₀)
     × (off + stream_len_from prev (drop k fks) ≤ length out₀)
     × (overwrite out off (stream_from prev (drop k fks)) ≡ overwrite out₀ 0 (stream fks))
 
-abbrev decreases_loop : tie.decreases_loop
+abbrev decreases_loop : tie.decreases-loop-k
 decreases_loop out₀ fks prev₀ off₀ k₀ out prev off k = length fks - k
 
 -- What is known of the next number of those left, and of those behind it.
@@ -53,42 +53,42 @@ turn fks out prev off k h rises fits =
     }
 
 -- the next number in a turn of the loop
-here : (c : tie.In-loop invariant_loop decreases_loop)
-    → let l = c.before.loop in Turn c.before.before.before.before.args.fks.now l.out l.prev l.off l.k
+here : (c : tie.In-loop-k invariant_loop decreases_loop)
+    → let l = c.before.loop-k in Turn c.before.before.before.before.args.fks.now l.out l.prev l.off l.k
 here c =
-    let l = c.before.loop in
+    let l = c.before.loop-k in
     turn c.before.before.before.before.args.fks.now l.out l.prev l.off l.k (omega arith) l.invariant.1 (omega arith)
 
-loop-holds : tie.Need-loop-init invariant_loop decreases_loop
-loop-holds c = (search rules, c.before.before.requires.0, refl, omega (arith, c.before.before.requires.1), refl)
+loop-k-init : tie.Need-loop-k-init invariant_loop decreases_loop
+loop-k-init c = (search rules, c.before.before.requires.0, refl, omega (arith, c.before.before.requires.1), refl)
 
-mul-fk : tie.Need-overflow-mul-fk invariant_loop decreases_loop
-mul-fk c = search rules
+offset_bounds-fks-k : tie.Need-offset_bounds-fks-k invariant_loop decreases_loop
+offset_bounds-fks-k c = search rules
 
-shared-slice-read-fk : tie.Need-shared-slice-read-fk invariant_loop decreases_loop
-shared-slice-read-fk c = search rules
+bounds-fks-k : tie.Need-bounds-fks-k invariant_loop decreases_loop
+bounds-fks-k c = search rules
 
-sub-put-form : tie.Need-overflow-sub-put-form invariant_loop decreases_loop
-sub-put-form c = omega (arith, (here c.before.before).above)
+overflow_sub-fk : tie.Need-overflow_sub-fk invariant_loop decreases_loop
+overflow_sub-fk c = omega (arith, (here c.before.before).above)
 
-put-form-requires : tie.Need-put-form-requires invariant_loop decreases_loop
-put-form-requires c κs = (here c.before.before).room
+put_form-off-requires : tie.Need-put_form-off-requires invariant_loop decreases_loop
+put_form-off-requires c κs = (here c.before.before).room
 
-add-off : tie.Need-overflow-add-off invariant_loop decreases_loop
-add-off c = omega (arith, (here c.before.before.before.before.before).room, c.before.before.put-form.ensures.0)
+overflow_add-off : tie.Need-overflow_add-off invariant_loop decreases_loop
+overflow_add-off c = omega (arith, (here c.before.before.before.before.before).room, c.before.before.put_form-off.ensures.0)
 
-add-k : tie.Need-overflow-add-k invariant_loop decreases_loop
-add-k c = search rules
+overflow_add-k : tie.Need-overflow_add-k invariant_loop decreases_loop
+overflow_add-k c = search rules
 
-loop-less : tie.Need-loop-smaller invariant_loop decreases_loop
-loop-less c = search rules
+loop-k-smaller : tie.Need-loop-k-smaller invariant_loop decreases_loop
+loop-k-smaller c = search rules
 
-loop-again : tie.Need-loop-preserved invariant_loop decreases_loop
-loop-again c =
+loop-k-preserved : tie.Need-loop-k-preserved invariant_loop decreases_loop
+loop-k-preserved c =
     let turn_in = c.before.before.before.before.before in
-    let l = turn_in.before.loop in
+    let l = turn_in.before.loop-k in
     let t = here turn_in in
-    let f = c.before.before.put-form in
+    let f = c.before.before.put_form-off in
     let fk = get_or turn_in.before.before.before.before.args.fks.now l.k 0 in
     let rest = drop (l.k + 1) turn_in.before.before.before.before.args.fks.now in
     let long = length_overwrite l.out l.off (shortest (fk - l.prev)) (omega (arith, t.room, length_shortest (fk - l.prev))) in
@@ -102,31 +102,31 @@ loop-again c =
           ∙ l.invariant.4,
     )
 
-same_length : tie.Need-same-length invariant_loop decreases_loop
-same_length c = search rules
+shape_of-out : tie.Need-shape_of-out invariant_loop decreases_loop
+shape_of-out c = search rules
 
 returns : tie.Need-returns invariant_loop decreases_loop
 unfolding stream_from
 returns c =
-    let l = c.before.loop in
+    let l = c.before.loop-k in
     let fks = c.before.before.before.before.args.fks.now in
     let end : drop l.k fks ≡ [] = drop_of_length-le fks {i = l.k} (omega arith) in
     sym (overwrite_nil l.out l.off) ∙ (rw end at l.invariant.4)
 
-pub put-fks-spec : {M : Type 1} → statement M
-put-fks-spec =
+pub put_fks_spec : {M : Type 1} → statement M
+put_fks_spec =
     tie.close
     (tie.spec
     invariant_loop
     decreases_loop
-    loop-holds
-    mul-fk
-    shared-slice-read-fk
-    sub-put-form
-    put-form-requires
-    add-off
-    add-k
-    loop-less
-    loop-again
-    same_length
+    loop-k-init
+    offset_bounds-fks-k
+    bounds-fks-k
+    overflow_sub-fk
+    put_form-off-requires
+    overflow_add-off
+    overflow_add-k
+    loop-k-smaller
+    loop-k-preserved
+    shape_of-out
     returns)

@@ -39,17 +39,17 @@ module _ (at : tie.Start) where
       ∙ overwrite_part bytes at.args.off room 0 (shortest at.args.d) (omega arith) (omega arith)
       ∙ ap (λ (o : ℕ). overwrite bytes o (shortest at.args.d)) (add-zero at.args.off)
 
-cast-out : tie.Need-overflow-cast-out
-cast-out c = search rules
+overflow_cast-out : tie.Need-overflow_cast-out
+overflow_cast-out c = search rules
 
-slice-write-out : tie.Need-slice-write-out
-slice-write-out c = omega (arith, len_pos c.before.before.args.d)
+bounds-out-off : tie.Need-bounds-out-off
+bounds-out-off c = omega (arith, len_pos c.before.before.args.d)
 
-same_length : tie.Need-same-length
-same_length c = search rules
+shape_of-out-then-d-lt128 : tie.Need-shape_of-out-then-d-lt128
+shape_of-out-then-d-lt128 c = search rules
 
-returns : tie.Need-returns
-returns c =
+returns-then-d-lt128 : tie.Need-returns-then-d-lt128
+returns-then-d-lt128 c =
     let a = c.before.before.args in
     let one = len_small a.d (omega arith) in (
       sym one,
@@ -57,29 +57,29 @@ returns c =
           (omega arith)),
     )
 
-cast-out-2 : tie.Need-overflow-cast-out-2
-cast-out-2 c = search rules
+overflow_cast-out-then-d-lt16384 : tie.Need-overflow_cast-out-then-d-lt16384
+overflow_cast-out-then-d-lt16384 c = search rules
 
-add-out : tie.Need-overflow-add-out
-add-out c = search rules
+overflow_add-out : tie.Need-overflow_add-out
+overflow_add-out c = search rules
 
-slice-write-out-2 : tie.Need-slice-write-out-2
-slice-write-out-2 c = omega (arith, len_pos c.before.before.before.args.d)
+bounds-out-off-then-d-lt16384 : tie.Need-bounds-out-off-then-d-lt16384
+bounds-out-off-then-d-lt16384 c = omega (arith, len_pos c.before.before.before.args.d)
 
-cast-out-3 : tie.Need-overflow-cast-out-3
-cast-out-3 c = search rules
+overflow_cast-out-then-d-lt16384-2 : tie.Need-overflow_cast-out-then-d-lt16384-2
+overflow_cast-out-then-d-lt16384-2 c = search rules
 
-add-out-2 : tie.Need-overflow-add-out-2
-add-out-2 c = search rules
+overflow_add-out-then-d-lt16384 : tie.Need-overflow_add-out-then-d-lt16384
+overflow_add-out-then-d-lt16384 c = search rules
 
-slice-write-out-3 : tie.Need-slice-write-out-3
-slice-write-out-3 c = let a = c.before.before.before.args in simp length-set (omega (arith, len_two a.d (omega arith) (omega arith)))
+bounds-out-off-then-d-lt16384-2 : tie.Need-bounds-out-off-then-d-lt16384-2
+bounds-out-off-then-d-lt16384-2 c = let a = c.before.before.before.args in simp length-set (omega (arith, len_two a.d (omega arith) (omega arith)))
 
-same-length-2 : tie.Need-same-length-2
-same-length-2 c = search rules
+shape_of-out-then-d-lt16384 : tie.Need-shape_of-out-then-d-lt16384
+shape_of-out-then-d-lt16384 c = search rules
 
-returns-2 : tie.Need-returns-2
-returns-2 c =
+returns-then-d-lt16384 : tie.Need-returns-then-d-lt16384
+returns-then-d-lt16384 c =
     let a = c.before.before.before.args in
     let b = a.out.now in
     let two = len_two a.d (omega arith) (omega arith) in
@@ -90,45 +90,45 @@ returns-2 c =
           ∙ overwrite_one (set b a.off (a.d % 128 + 128)) (a.off + 1) (a.d / 128) inside),
     )
 
-sub-put-uleb128 : tie.Need-overflow-sub-put-uleb128
-sub-put-uleb128 c = search rules
+slice_bounds-put_uleb128-count : tie.Need-slice_bounds-put_uleb128-count
+slice_bounds-put_uleb128-count c = search rules
 
-part-put-uleb128-start : tie.Need-slice-bounds-put-uleb128-start
-part-put-uleb128-start c = search rules
+slice_bounds-put_uleb128-start : tie.Need-slice_bounds-put_uleb128-start
+slice_bounds-put_uleb128-start c = search rules
 
-part-put-uleb128-end : tie.Need-slice-bounds-put-uleb128-end
-part-put-uleb128-end c = search rules
+slice_bounds-put_uleb128-end : tie.Need-slice_bounds-put_uleb128-end
+slice_bounds-put_uleb128-end c = search rules
 
-put-uleb128-requires : tie.Need-put-uleb128-requires
-put-uleb128-requires c κs = fits c.before.before.before.before
+put_uleb128-requires : tie.Need-put_uleb128-requires
+put_uleb128-requires c κs = fits c.before.before.before.before
 
-same-length-3 : tie.Need-same-length-3
-same-length-3 c = search rules
+shape_of-out : tie.Need-shape_of-out
+shape_of-out c = search rules
 
-returns-3 : tie.Need-returns-3
-returns-3 c =
-    let put = c.before.before.put-uleb128.ensures in
+returns : tie.Need-returns
+returns c =
+    let put = c.before.before.put_uleb128.ensures in
     (put.0, written c.before.before.before.before.before.before.before put.1)
 
-pub put-form-spec : {M : Type 1} → statement M
-put-form-spec =
+pub put_form_spec : {M : Type 1} → statement M
+put_form_spec =
     tie.close
     (tie.spec
-    cast-out
-    slice-write-out
-    same_length
-    returns
-    cast-out-2
-    add-out
-    slice-write-out-2
-    cast-out-3
-    add-out-2
-    slice-write-out-3
-    same-length-2
-    returns-2
-    sub-put-uleb128
-    part-put-uleb128-start
-    part-put-uleb128-end
-    put-uleb128-requires
-    same-length-3
-    returns-3)
+    overflow_cast-out
+    bounds-out-off
+    shape_of-out-then-d-lt128
+    returns-then-d-lt128
+    overflow_cast-out-then-d-lt16384
+    overflow_add-out
+    bounds-out-off-then-d-lt16384
+    overflow_cast-out-then-d-lt16384-2
+    overflow_add-out-then-d-lt16384
+    bounds-out-off-then-d-lt16384-2
+    shape_of-out-then-d-lt16384
+    returns-then-d-lt16384
+    slice_bounds-put_uleb128-count
+    slice_bounds-put_uleb128-start
+    slice_bounds-put_uleb128-end
+    put_uleb128-requires
+    shape_of-out
+    returns)

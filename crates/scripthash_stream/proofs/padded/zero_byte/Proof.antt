@@ -6,11 +6,11 @@ use borrow.Author.Tests.{eq-eqb, ne_eqb}
 use Rattle.scripthash_stream.proofs.padded.zero_byte.Statement.{statement}
 use Rattle.scripthash_stream.proofs.padded.zero_byte.Tie as tie
 
+returns-then-b-eq0 : tie.Need-returns-then-b-eq0
+returns-then-b-eq0 c = (rw (eq-eqb c.before.args.b 0 (omega arith)), search rules)
+
 returns : tie.Need-returns
-returns c = (rw (eq-eqb c.before.args.b 0 (omega arith)), search rules)
+returns c = (rw (ne_eqb c.before.args.b 0 (λ (e : c.before.args.b ≡ 0). omega arith)), search rules)
 
-returns-2 : tie.Need-returns-2
-returns-2 c = (rw (ne_eqb c.before.args.b 0 (λ (e : c.before.args.b ≡ 0). omega arith)), search rules)
-
-pub zero-byte-spec : {M : Type 1} → statement M
-zero-byte-spec = tie.close (tie.spec returns returns-2)
+pub zero_byte_spec : {M : Type 1} → statement M
+zero_byte_spec = tie.close (tie.spec returns-then-b-eq0 returns)

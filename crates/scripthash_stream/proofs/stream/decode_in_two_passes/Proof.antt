@@ -14,32 +14,32 @@ use Rattle.scripthash_stream.proofs.stream.decode_in_two_passes.Statement.{state
 use Rattle.scripthash_stream.proofs.stream.decode_in_two_passes.Tie as tie
 
 -- a stream that scanned, and the scan
-module _ (c : tie.After-known-told) where
+module _ (c : tie.In-Scanned) where
   abbrev args : tie.Start
   args = c.before.before.before.before.before.before
 
   found : (s : Scan) × (scan args.args.n args.args.buf.now ≡ accepted s)
-      × (end_from 0 s ≡ record { taken = c.before.got.given.0.0; last = c.before.got.given.0.1.0 })
-  found = was_accepted (end_from 0) (scan args.args.n args.args.buf.now) (sym c.before.before.before.scan-by-number.ensures
-      ∙ ap scan_answer c.before.got.given.1)
+      × (end_from 0 s ≡ record { taken = c.before.got-1.given.0.0; last = c.before.got-1.given.0.1.0 })
+  found = was_accepted (end_from 0) (scan args.args.n args.args.buf.now) (sym c.before.before.before.scan_by_number-got.ensures
+      ∙ ap scan_answer c.before.got-1.given.1)
 
-scan-by-number-requires : tie.Need-scan-by-number-requires
-scan-by-number-requires c κs = search rules
+scan_by_number-got-requires : tie.Need-scan_by_number-got-requires
+scan_by_number-got-requires c κs = search rules
 
-enum-known-got : tie.Need-enum-known-got
-enum-known-got c = search rules
+enum_known-got : tie.Need-enum_known-got
+enum_known-got c = search rules
 
-enum_told : tie.Need-enum-told
-enum_told c = search rules
+enum_told-1 : tie.Need-enum_told-1
+enum_told-1 c = search rules
 
 refusal-requires : tie.Need-refusal-requires
 refusal-requires c κs = search rules
 
-returns : tie.Need-returns
-returns c =
-    let told = c.before.enum_told.given in
+returns-in_default : tie.Need-returns-in_default
+returns-in_default c =
+    let told = c.before.enum_told-1.given in
     let a = c.before.before.before.before.before.before.args in
-    let stop = was_refused (end_from 0) (scan a.n a.buf.now) (sym c.before.before.before.scan-by-number.ensures
+    let stop = was_refused (end_from 0) (scan a.n a.buf.now) (sym c.before.before.before.scan_by_number-got.ensures
     ∙ ap scan_answer told.1) in
     let answer = decode_refused (length a.out.now) a.n a.buf.now stop in (
       ap refused (c.refusal.ensures ∙ ap (λ (g : ScanStream). refusal_of (scan_answer g)) told.1)
@@ -47,37 +47,37 @@ returns c =
       sym (after_refused a.out.now _ answer),
     )
 
-returns-2 : tie.Need-returns-2
-returns-2 c =
+returns-then-out-n : tie.Need-returns-then-out-n
+returns-then-out-n c =
     let a = (args c.before).args in
     let answer = decode_short (length a.out.now) a.n a.buf.now (found c.before).1 (omega arith) in
     (sym (answered_no (λ s. s.taken) _ answer), sym (after_refused a.out.now _ answer))
 
-fill-fks-requires : tie.Need-fill-fks-requires
-fill-fks-requires c κs = search rules
+fill_fks-requires : tie.Need-fill_fks-requires
+fill_fks-requires c κs = search rules
 
-same_length : tie.Need-same-length
-same_length c = search rules
+shape_of-out : tie.Need-shape_of-out
+shape_of-out c = search rules
 
-returns-3 : tie.Need-returns-3
-returns-3 c =
+returns : tie.Need-returns
+returns c =
     let d = c.before.before.before.before.before in
     let a = (args d).args in
     let answer = decode_fits (length a.out.now) a.n a.buf.now (found d).1 (omega arith) in (
       ap accepted (sym (ap (λ (e : End). e.taken) (found d).2)) ∙ sym (answered_yes (λ s. s.taken) _ answer),
-      c.before.before.fill-fks.ensures (found d).0 (found d).1 ∙ sym (after_accepted a.out.now _ answer),
+      c.before.before.fill_fks.ensures (found d).0 (found d).1 ∙ sym (after_accepted a.out.now _ answer),
     )
 
-pub decode-in-two-passes-spec : {M : Type 1} → statement M
-decode-in-two-passes-spec =
+pub decode_in_two_passes_spec : {M : Type 1} → statement M
+decode_in_two_passes_spec =
     tie.close
     (tie.spec
-    scan-by-number-requires
-    enum-known-got
-    enum_told
+    scan_by_number-got-requires
+    enum_known-got
+    enum_told-1
     refusal-requires
-    returns
-    returns-2
-    fill-fks-requires
-    same_length
-    returns-3)
+    returns-in_default
+    returns-then-out-n
+    fill_fks-requires
+    shape_of-out
+    returns)

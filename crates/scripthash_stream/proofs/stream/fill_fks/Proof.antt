@@ -58,77 +58,77 @@ left_end buf n out₀ out prev off k s h l =
     let empty : record { numbers = []; taken = 0 } ≡ l.rest = accepted_inj (rw none at l.scans) in
     sym (overwrite_nil out k) ∙ ap (λ (t : Scan). overwrite out k t.numbers) empty ∙ l.makes
 
-abbrev invariant_loop : tie.invariant_loop
+abbrev invariant_loop : tie.invariant-loop-k
 invariant_loop buf n out₀ prev₀ off₀ k₀ out prev off k =
     (k ≤ n) × (n ≤ length out₀) × (length out ≡ length out₀) × (off ≤ length buf) × (prev < 2 ^ 63)
     × ((s : Scan) → scan n buf ≡ accepted s → Left buf n out₀ out prev off k s)
 
-abbrev decreases_loop : tie.decreases_loop
+abbrev decreases_loop : tie.decreases-loop-k
 decreases_loop buf n out₀ prev₀ off₀ k₀ out prev off k = n - k
 
 -- a number that was read, and what is known of it
-module _ (c : tie.After-known-told invariant_loop decreases_loop) where
-  abbrev loc : tie.At-loop invariant_loop decreases_loop
+module _ (c : tie.In-Number invariant_loop decreases_loop) where
+  abbrev loc : tie.At-loop-k invariant_loop decreases_loop
   loc = c.before.before.before.before.before
 
   abbrev bytes : List ℕ
   bytes = loc.before.before.before.args.buf.now
 
   abbrev got : Reading
-  got = record { value = c.before.got.given.0.0; len = c.before.got.given.0.1.0 }
+  got = record { value = c.before.got-1.given.0.0; len = c.before.got-1.given.0.1.0 }
 
-  is : next_number loc.loop.prev (drop loc.loop.off bytes) ≡ accepted got
-  is = sym c.before.before.before.next-fk.ensures ∙ ap next_answer c.before.got.given.1
+  is : next_number loc.loop-k.prev (drop loc.loop-k.off bytes) ≡ accepted got
+  is = sym c.before.before.before.next_fk-got.ensures ∙ ap next_answer c.before.got-1.given.1
 
-  number : Next loc.loop.prev (drop loc.loop.off bytes) got
-  number = next_accepted loc.loop.prev (drop loc.loop.off bytes) got is
+  number : Next loc.loop-k.prev (drop loc.loop-k.off bytes) got
+  number = next_accepted loc.loop-k.prev (drop loc.loop-k.off bytes) got is
 
-  inside : loc.loop.off + got.len ≤ length bytes
+  inside : loc.loop-k.off + got.len ≤ length bytes
   inside = let h = simp length-drop at number.len_within in omega arith
 
-loop-holds : tie.Need-loop-init invariant_loop decreases_loop
-loop-holds c =
+loop-k-init : tie.Need-loop-k-init invariant_loop decreases_loop
+loop-k-init c =
     let a = c.before.before.args in
     (search rules, search rules, refl, search rules, search rules, left_start a.buf.now a.n a.out.now)
 
-next-fk-requires : tie.Need-next-fk-requires invariant_loop decreases_loop
-next-fk-requires c κs = search rules
+next_fk-got-requires : tie.Need-next_fk-got-requires invariant_loop decreases_loop
+next_fk-got-requires c κs = search rules
 
-enum-known-got : tie.Need-enum-known-got invariant_loop decreases_loop
-enum-known-got c = search rules
+enum_known-got : tie.Need-enum_known-got invariant_loop decreases_loop
+enum_known-got c = search rules
 
-enum_told : tie.Need-enum-told invariant_loop decreases_loop
-enum_told c = search rules
+enum_told-1 : tie.Need-enum_told-1 invariant_loop decreases_loop
+enum_told-1 c = search rules
 
-same_length : tie.Need-same-length invariant_loop decreases_loop
-same_length c = search rules
+shape_of-out-in_default : tie.Need-shape_of-out-in_default invariant_loop decreases_loop
+shape_of-out-in_default c = search rules
 
-returns : tie.Need-returns invariant_loop decreases_loop
-returns c s e =
+returns-in_default : tie.Need-returns-in_default invariant_loop decreases_loop
+returns-in_default c s e =
     let l = c.before.before.before.before in
     let a = l.before.before.before.args in
-    let stop = sym c.before.before.next-fk.ensures ∙ ap next_answer c.enum_told.given.1 in
-    absurd (left_read a.buf.now a.n a.out.now l.loop.out l.loop.prev l.loop.off l.loop.k s (omega arith)
-    (l.loop.invariant.5 s e) stop)
+    let stop = sym c.before.before.next_fk-got.ensures ∙ ap next_answer c.enum_told-1.given.1 in
+    absurd (left_read a.buf.now a.n a.out.now l.loop-k.out l.loop-k.prev l.loop-k.off l.loop-k.k s (omega arith)
+    (l.loop-k.invariant.5 s e) stop)
 
-mul-out : tie.Need-overflow-mul-out invariant_loop decreases_loop
-mul-out c = search rules
+offset_bounds-out-k : tie.Need-offset_bounds-out-k invariant_loop decreases_loop
+offset_bounds-out-k c = search rules
 
-slice-write-out : tie.Need-slice-write-out invariant_loop decreases_loop
-slice-write-out c = search rules
+bounds-out-k : tie.Need-bounds-out-k invariant_loop decreases_loop
+bounds-out-k c = search rules
 
-add-off : tie.Need-overflow-add-off invariant_loop decreases_loop
-add-off c = omega (arith, inside c)
+overflow_add-off : tie.Need-overflow_add-off invariant_loop decreases_loop
+overflow_add-off c = omega (arith, inside c)
 
-add-k : tie.Need-overflow-add-k invariant_loop decreases_loop
-add-k c = search rules
+overflow_add-k : tie.Need-overflow_add-k invariant_loop decreases_loop
+overflow_add-k c = search rules
 
-loop-less : tie.Need-loop-smaller invariant_loop decreases_loop
-loop-less c = search rules
+loop-k-smaller : tie.Need-loop-k-smaller invariant_loop decreases_loop
+loop-k-smaller c = search rules
 
-loop-again : tie.Need-loop-preserved invariant_loop decreases_loop
-loop-again c =
-    let l = (loc c).loop in
+loop-k-preserved : tie.Need-loop-k-preserved invariant_loop decreases_loop
+loop-k-preserved c =
+    let l = (loc c).loop-k in
     let a = (loc c).before.before.before.args in (
       search rules,
       l.inv.1,
@@ -139,32 +139,32 @@ loop-again c =
           (omega arith),
     )
 
-same-length-2 : tie.Need-same-length-2 invariant_loop decreases_loop
-same-length-2 c = search rules
+shape_of-out : tie.Need-shape_of-out invariant_loop decreases_loop
+shape_of-out c = search rules
 
-returns-2 : tie.Need-returns-2 invariant_loop decreases_loop
-returns-2 c s e =
-    let l = c.before.loop in
+returns : tie.Need-returns invariant_loop decreases_loop
+returns c s e =
+    let l = c.before.loop-k in
     let a = c.before.before.before.before.args in
     left_end a.buf.now a.n a.out.now l.out l.prev l.off l.k s (omega arith) (l.invariant.5 s e)
 
-pub fill-fks-spec : {M : Type 1} → statement M
-fill-fks-spec =
+pub fill_fks_spec : {M : Type 1} → statement M
+fill_fks_spec =
     tie.close
     (tie.spec
     invariant_loop
     decreases_loop
-    loop-holds
-    next-fk-requires
-    enum-known-got
-    enum_told
-    same_length
-    returns
-    mul-out
-    slice-write-out
-    add-off
-    add-k
-    loop-less
-    loop-again
-    same-length-2
-    returns-2)
+    loop-k-init
+    next_fk-got-requires
+    enum_known-got
+    enum_told-1
+    shape_of-out-in_default
+    returns-in_default
+    offset_bounds-out-k
+    bounds-out-k
+    overflow_add-off
+    overflow_add-k
+    loop-k-smaller
+    loop-k-preserved
+    shape_of-out
+    returns)

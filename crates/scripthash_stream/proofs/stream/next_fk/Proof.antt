@@ -19,123 +19,123 @@ use Prim.Native.Nat.{ℕ, ◌+◌, ◌*◌, ◌%◌}
 use Rattle.scripthash_stream.proofs.stream.next_fk.Statement.{statement}
 use Rattle.scripthash_stream.proofs.stream.next_fk.Tie as tie
 
-shared-slice-read-wide : tie.Need-shared-slice-read-wide
-shared-slice-read-wide c = search rules
+bounds-buf-off : tie.Need-bounds-buf-off
+bounds-buf-off c = search rules
 
-wide-requires : tie.Need-wide-requires
-wide-requires c κs = search rules
+wide-d-requires : tie.Need-wide-d-requires
+wide-d-requires c κs = search rules
 
-stored-number-requires : tie.Need-stored-number-requires
-stored-number-requires c κs = search rules
+stored_number-requires : tie.Need-stored_number-requires
+stored_number-requires c κs = search rules
 
-returns : tie.Need-returns
-returns c =
+returns-then-d-lt128 : tie.Need-returns-then-d-lt128
+returns-then-d-lt128 c =
     let a = c.before.before.before.before.before.before.args in
     let byte : read_uleb (drop a.off a.buf.now) ≡ accepted (record { value = get_or a.buf.now a.off 0; len = 1 }) =
     read_byte_at a.buf.now a.off (omega arith) (omega arith) in
-    c.stored-number.ensures
-    ∙ ap (λ (d : ℕ). stored_number a.prev (record { value = d; len = 1 })) c.before.before.wide.ensures
+    c.stored_number.ensures
+    ∙ ap (λ (d : ℕ). stored_number a.prev (record { value = d; len = 1 })) c.before.before.wide-d.ensures
     ∙ sym (next_is a.prev (drop a.off a.buf.now) (record { value = get_or a.buf.now a.off 0; len = 1 }) byte)
 
-add-if3 : tie.Need-overflow-add-if3
-add-if3 c = search rules
+overflow_add-off : tie.Need-overflow_add-off
+overflow_add-off c = search rules
 
-add_wide : tie.Need-overflow-add-wide
-add_wide c = search rules
+overflow_add-off-then-off-buf-2 : tie.Need-overflow_add-off-then-off-buf-2
+overflow_add-off-then-off-buf-2 c = search rules
 
-shared-slice-read-wide-2 : tie.Need-shared-slice-read-wide-2
-shared-slice-read-wide-2 c = search rules
+bounds-buf-off-then-off-buf-2 : tie.Need-bounds-buf-off-then-off-buf-2
+bounds-buf-off-then-off-buf-2 c = search rules
 
-wide-requires-2 : tie.Need-wide-requires-2
-wide-requires-2 c κs = search rules
+wide-e-requires : tie.Need-wide-e-requires
+wide-e-requires c κs = search rules
 
-mul-stored-number : tie.Need-overflow-mul-stored-number
-mul-stored-number c = search rules
+overflow_mul-e : tie.Need-overflow_mul-e
+overflow_mul-e c = search rules
 
-add-stored-number : tie.Need-overflow-add-stored-number
-add-stored-number c = search rules
+overflow_add-d : tie.Need-overflow_add-d
+overflow_add-d c = search rules
 
-stored-number-requires-2 : tie.Need-stored-number-requires-2
-stored-number-requires-2 c κs = search rules
+stored_number-requires-then-e-lt128 : tie.Need-stored_number-requires-then-e-lt128
+stored_number-requires-then-e-lt128 c κs = search rules
 
-returns-2 : tie.Need-returns-2
-returns-2 c =
+returns-then-e-lt128 : tie.Need-returns-then-e-lt128
+returns-then-e-lt128 c =
     let w = c.before.before.before.before.before.before in
     let a = w.before.before.before.before.args in
     let x = get_or a.buf.now a.off 0 in
     let y = get_or a.buf.now (a.off + 1) 0 in
     let two : read_uleb (drop a.off a.buf.now) ≡ accepted (record { value = x % 128 + 128 * y; len = 2 }) =
-    read_two_at a.buf.now a.off (omega arith) (omega (arith, w.wide.ensures)) (omega (arith, c.before.before.wide2.ensures)) in
-    let same : w.wide.result % 128 + 128 * c.before.before.wide2.result ≡ x % 128 + 128 * y =
-    omega (arith, w.wide.ensures, c.before.before.wide2.ensures) in
-    c.stored-number2.ensures
+    read_two_at a.buf.now a.off (omega arith) (omega (arith, w.wide-d.ensures)) (omega (arith, c.before.before.wide-e.ensures)) in
+    let same : w.wide-d.result % 128 + 128 * c.before.before.wide-e.result ≡ x % 128 + 128 * y =
+    omega (arith, w.wide-d.ensures, c.before.before.wide-e.ensures) in
+    c.stored_number-then-e-lt128.ensures
     ∙ ap (λ (d : ℕ). stored_number a.prev (record { value = d; len = 2 })) same
     ∙ sym (next_is a.prev (drop a.off a.buf.now) (record { value = x % 128 + 128 * y; len = 2 }) two)
 
-sub-read-uleb128 : tie.Need-overflow-sub-read-uleb128
-sub-read-uleb128 c = search rules
+slice_bounds-read_uleb128-count : tie.Need-slice_bounds-read_uleb128-count
+slice_bounds-read_uleb128-count c = search rules
 
-part-read-uleb128-start : tie.Need-slice-bounds-read-uleb128-start
-part-read-uleb128-start c = search rules
+slice_bounds-read_uleb128-start : tie.Need-slice_bounds-read_uleb128-start
+slice_bounds-read_uleb128-start c = search rules
 
-part-read-uleb128-end : tie.Need-slice-bounds-read-uleb128-end
-part-read-uleb128-end c = search rules
+slice_bounds-read_uleb128-end : tie.Need-slice_bounds-read_uleb128-end
+slice_bounds-read_uleb128-end c = search rules
 
-read-uleb128-requires : tie.Need-read-uleb128-requires
-read-uleb128-requires c κs = search rules
+read_uleb128-got-requires : tie.Need-read_uleb128-got-requires
+read_uleb128-got-requires c κs = search rules
 
-enum-known-got : tie.Need-enum-known-got
-enum-known-got c = search rules
+enum_known-got : tie.Need-enum_known-got
+enum_known-got c = search rules
 
-enum_told : tie.Need-enum-told
-enum_told c = search rules
+enum_told-1 : tie.Need-enum_told-1
+enum_told-1 c = search rules
 
 refusal-requires : tie.Need-refusal-requires
 refusal-requires c κs = search rules
 
-returns-3 : tie.Need-returns-3
-returns-3 c =
-    let told = c.before.enum_told.given in
+returns-in_default : tie.Need-returns-in_default
+returns-in_default c =
+    let told = c.before.enum_told-1.given in
     let a = c.before.before.before.before.before.before.before.args in
-    let read = rw (part_to_end a.buf.now a.off) at c.before.before.before.read-uleb128.ensures in
+    let read = rw (part_to_end a.buf.now a.off) at c.before.before.before.read_uleb128-got.ensures in
     ap refused (c.refusal.ensures ∙ ap (λ (g : ReadUleb128). refusal_of (read_uleb_answer g)) told.1)
     ∙ sym (next_refused a.prev (drop a.off a.buf.now) (was_refused number_read _ (sym read ∙ ap read_uleb_answer told.1)))
 
-stored-number-requires-3 : tie.Need-stored-number-requires-3
-stored-number-requires-3 c κs = search rules
+stored_number-requires-2 : tie.Need-stored_number-requires-2
+stored_number-requires-2 c κs = search rules
 
-returns-4 : tie.Need-returns-4
-returns-4 c =
-    let told = c.before.before.got.given in
+returns : tie.Need-returns
+returns c =
+    let told = c.before.before.got-1.given in
     let a = c.before.before.before.before.before.before.before.before.args in
-    let read = rw (part_to_end a.buf.now a.off) at c.before.before.before.before.read-uleb128.ensures in
-    c.stored-number3.ensures
+    let read = rw (part_to_end a.buf.now a.off) at c.before.before.before.before.read_uleb128-got.ensures in
+    c.stored_number-2.ensures
     ∙ sym (next_is a.prev (drop a.off a.buf.now) (record { value = told.0.0; len = told.0.1.0 })
     (number_back (drop a.off a.buf.now) (sym read ∙ ap read_uleb_answer told.1)))
 
-pub next-fk-spec : {M : Type 1} → statement M
-next-fk-spec =
+pub next_fk_spec : {M : Type 1} → statement M
+next_fk_spec =
     tie.close
     (tie.spec
-    shared-slice-read-wide
-    wide-requires
-    stored-number-requires
-    returns
-    add-if3
-    add_wide
-    shared-slice-read-wide-2
-    wide-requires-2
-    mul-stored-number
-    add-stored-number
-    stored-number-requires-2
-    returns-2
-    sub-read-uleb128
-    part-read-uleb128-start
-    part-read-uleb128-end
-    read-uleb128-requires
-    enum-known-got
-    enum_told
+    bounds-buf-off
+    wide-d-requires
+    stored_number-requires
+    returns-then-d-lt128
+    overflow_add-off
+    overflow_add-off-then-off-buf-2
+    bounds-buf-off-then-off-buf-2
+    wide-e-requires
+    overflow_mul-e
+    overflow_add-d
+    stored_number-requires-then-e-lt128
+    returns-then-e-lt128
+    slice_bounds-read_uleb128-count
+    slice_bounds-read_uleb128-start
+    slice_bounds-read_uleb128-end
+    read_uleb128-got-requires
+    enum_known-got
+    enum_told-1
     refusal-requires
-    returns-3
-    stored-number-requires-3
-    returns-4)
+    returns-in_default
+    stored_number-requires-2
+    returns)

@@ -10,31 +10,31 @@ use Rattle.scripthash_stream.proofs.LawsScan.{stored_sum}
 use Rattle.scripthash_stream.proofs.stream.stored_number.Statement.{statement}
 use Rattle.scripthash_stream.proofs.stream.stored_number.Tie as tie
 
-returns : tie.Need-returns
+returns-then-prev-eq0 : tie.Need-returns-then-prev-eq0
 unfolding stored_number refuse_if
-returns c = rw (eq-eqb c.before.before.args.d 0 (omega arith), eq-eqb c.before.before.args.prev 0 (omega arith))
+returns-then-prev-eq0 c = rw (eq-eqb c.before.before.args.d 0 (omega arith), eq-eqb c.before.before.args.prev 0 (omega arith))
 
-returns-2 : tie.Need-returns-2
+returns-then-d-eq0 : tie.Need-returns-then-d-eq0
 unfolding stored_number refuse_if
-returns-2 c =
+returns-then-d-eq0 c =
     let a = c.before.before.args in
     rw (eq-eqb a.d 0 (omega arith), ne_eqb a.prev 0 (λ (e : a.prev ≡ 0). omega arith))
 
-sub-if3 : tie.Need-overflow-sub-if3
-sub-if3 c = search rules
+overflow_sub-prev : tie.Need-overflow_sub-prev
+overflow_sub-prev c = search rules
 
-returns-3 : tie.Need-returns-3
+returns-then-prev-d : tie.Need-returns-then-prev-d
 unfolding stored_number refuse_if
-returns-3 c =
+returns-then-prev-d c =
     let a = c.before.before.args in
     rw (ne_eqb a.d 0 (λ (e : a.d ≡ 0). omega arith), le-leb (2 ^ 64) (a.prev + a.d) (omega arith))
 
-add-if4 : tie.Need-overflow-add-if4
-add-if4 c = search rules
+overflow_add-prev : tie.Need-overflow_add-prev
+overflow_add-prev c = search rules
 
-returns-4 : tie.Need-returns-4
+returns-then-prev-d-ge-BIT_63 : tie.Need-returns-then-prev-d-ge-BIT_63
 unfolding stored_number refuse_if
-returns-4 c =
+returns-then-prev-d-ge-BIT_63 c =
     let a = c.before.before.before.args in
     rw (
       ne_eqb a.d 0 (λ (e : a.d ≡ 0). omega arith),
@@ -42,14 +42,14 @@ returns-4 c =
       le-leb (2 ^ 63) (a.prev + a.d) (omega arith),
     )
 
-add-t6 : tie.Need-overflow-add-t6
-add-t6 c = search rules
+overflow_add-result : tie.Need-overflow_add-result
+overflow_add-result c = search rules
 
-returns-5 : tie.Need-returns-5
-returns-5 c =
+returns : tie.Need-returns
+returns c =
     let a = c.before.before.before.args in
     sym (stored_sum a.prev (record { value = a.d; len = a.len }) (omega arith) (omega arith))
 
-pub stored-number-spec : {M : Type 1} → statement M
-stored-number-spec =
-    tie.close (tie.spec returns returns-2 sub-if3 returns-3 add-if4 returns-4 add-t6 returns-5)
+pub stored_number_spec : {M : Type 1} → statement M
+stored_number_spec =
+    tie.close (tie.spec returns-then-prev-eq0 returns-then-d-eq0 overflow_sub-prev returns-then-prev-d overflow_add-prev returns-then-prev-d-ge-BIT_63 overflow_add-result returns)

@@ -8,33 +8,33 @@ use Rattle.scripthash_words.proofs.LawsFilling.{first_none, first_read}
 use Rattle.scripthash_words.proofs.first.first_number.Statement.{statement}
 use Rattle.scripthash_words.proofs.first.first_number.Tie as tie
 
-read-uleb128-requires : tie.Need-read-uleb128-requires
-read-uleb128-requires c κs = search rules
+read_uleb128-got-requires : tie.Need-read_uleb128-got-requires
+read_uleb128-got-requires c κs = search rules
 
-enum-known-got : tie.Need-enum-known-got
-enum-known-got c = search rules
+enum_known-got : tie.Need-enum_known-got
+enum_known-got c = search rules
 
-enum_told : tie.Need-enum-told
-enum_told c = search rules
+enum_told-1 : tie.Need-enum_told-1
+enum_told-1 c = search rules
+
+returns-in_default : tie.Need-returns-in_default
+returns-in_default c = first_none _
+
+returns-then-value-eq0 : tie.Need-returns-then-value-eq0
+returns-then-value-eq0 c = first_none _
+
+returns-then-value-ge-BIT_63 : tie.Need-returns-then-value-ge-BIT_63
+returns-then-value-ge-BIT_63 c = first_none _
 
 returns : tie.Need-returns
-returns c = first_none _
-
-returns-2 : tie.Need-returns-2
-returns-2 c = first_none _
-
-returns-3 : tie.Need-returns-3
-returns-3 c = first_none _
-
-returns-4 : tie.Need-returns-4
-returns-4 c =
-    let told = c.before.before.before.got.given in
+returns c =
+    let told = c.before.before.before.got-1.given in
     let a = c.before.before.before.before.before.before.before.args in
     first_read told.0.0 told.0.1.0 a.buf.now
-    (number_back a.buf.now (sym c.before.before.before.before.before.read-uleb128.ensures ∙ ap read_uleb_answer told.1))
+    (number_back a.buf.now (sym c.before.before.before.before.before.read_uleb128-got.ensures ∙ ap read_uleb_answer told.1))
     (omega arith) (omega arith)
 
-pub first-number-spec : {M : Type 1} → statement M
-first-number-spec =
+pub first_number_spec : {M : Type 1} → statement M
+first_number_spec =
     tie.close
-    (tie.spec read-uleb128-requires enum-known-got enum_told returns returns-2 returns-3 returns-4)
+    (tie.spec read_uleb128-got-requires enum_known-got enum_told-1 returns-in_default returns-then-value-eq0 returns-then-value-ge-BIT_63 returns)

@@ -6,46 +6,46 @@ use Rattle.scripthash_words.proofs.LawsOnes.{ones_read}
 use Rattle.scripthash_words.proofs.ones.read_ones.Statement.{statement}
 use Rattle.scripthash_words.proofs.ones.read_ones.Tie as tie
 
-sub-if1 : tie.Need-overflow-sub-if1
-sub-if1 c = search rules
+overflow_sub-buf : tie.Need-overflow_sub-buf
+overflow_sub-buf c = search rules
 
-returns : tie.Need-returns
-returns c = nothing_read _ _ _ _ _ _ _
+returns-then-buf-from : tie.Need-returns-then-buf-from
+returns-then-buf-from c = nothing_read _ _ _ _ _ _ _
 
-all-ones-requires : tie.Need-all-ones-requires
-all-ones-requires c κs = search rules
+all_ones-requires : tie.Need-all_ones-requires
+all_ones-requires c κs = search rules
 
-sum-ones-requires : tie.Need-sum-ones-requires
-sum-ones-requires c κs = (omega arith, c.before.before.all_ones.ensures c.before.if2.true, omega arith, omega arith)
+sum_ones-requires : tie.Need-sum_ones-requires
+sum_ones-requires c κs = (omega arith, c.before.before.all_ones.ensures c.before.if-all_ones.true, omega arith, omega arith)
 
-add-result : tie.Need-overflow-add-result
-add-result c = search rules
+overflow_add-result : tie.Need-overflow_add-result
+overflow_add-result c = search rules
 
-same_length : tie.Need-same-length
-same_length c = search rules
+shape_of-out-then-all_ones : tie.Need-shape_of-out-then-all_ones
+shape_of-out-then-all_ones c = search rules
 
-returns-2 : tie.Need-returns-2
-returns-2 c =
+returns-then-all_ones : tie.Need-returns-then-all_ones
+returns-then-all_ones c =
     let u = c.before.before in
     let t = u.before.before in
     let w = t.before in
     let a = w.before.before.before.before in
     ones_read a.args.buf.now a.args.from a.args.prev a.args.n u.sum_ones.result a.args.out.now _ a.requires.0
     (omega arith)
-    (w.all_ones.ensures t.if2.true) a.requires.4 u.sum_ones.ensures.0 u.sum_ones.ensures.2 u.sum_ones.ensures.1
+    (w.all_ones.ensures t.if-all_ones.true) a.requires.4 u.sum_ones.ensures.0 u.sum_ones.ensures.2 u.sum_ones.ensures.1
 
-returns-3 : tie.Need-returns-3
-returns-3 c = nothing_read _ _ _ _ _ _ _
+returns : tie.Need-returns
+returns c = nothing_read _ _ _ _ _ _ _
 
-pub read-ones-spec : {M : Type 1} → statement M
-read-ones-spec =
+pub read_ones_spec : {M : Type 1} → statement M
+read_ones_spec =
     tie.close
     (tie.spec
-    sub-if1
-    returns
-    all-ones-requires
-    sum-ones-requires
-    add-result
-    same_length
-    returns-2
-    returns-3)
+    overflow_sub-buf
+    returns-then-buf-from
+    all_ones-requires
+    sum_ones-requires
+    overflow_add-result
+    shape_of-out-then-all_ones
+    returns-then-all_ones
+    returns)

@@ -6,72 +6,72 @@ use Rattle.scripthash_words.proofs.LawsFilling.{short_none, short_read, short_un
 use Rattle.scripthash_words.proofs.read.read_by_words.Statement.{statement}
 use Rattle.scripthash_words.proofs.read.read_by_words.Tie as tie
 
-first-number-requires : tie.Need-first-number-requires
-first-number-requires c κs = search rules
+first_number-first-requires : tie.Need-first_number-first-requires
+first_number-first-requires c κs = search rules
 
-returns : tie.Need-returns
-returns c = short_none _ _ _
+returns-then-next-eq0 : tie.Need-returns-then-next-eq0
+returns-then-next-eq0 c = short_none _ _ _
 
-add-if2 : tie.Need-overflow-add-if2
-add-if2 c = search rules
+overflow_add-first : tie.Need-overflow_add-first
+overflow_add-first c = search rules
 
-returns-2 : tie.Need-returns-2
-returns-2 c = short_none _ _ _
+returns-then-first-ge-BIT_63 : tie.Need-returns-then-first-ge-BIT_63
+returns-then-first-ge-BIT_63 c = short_none _ _ _
 
-add-if3 : tie.Need-overflow-add-if3
-add-if3 c = search rules
+overflow_add-first-2 : tie.Need-overflow_add-first-2
+overflow_add-first-2 c = search rules
 
-returns-3 : tie.Need-returns-3
-returns-3 c = short_none _ _ _
+returns-then-top-first : tie.Need-returns-then-top-first
+returns-then-top-first c = short_none _ _ _
 
-sub-read-behind : tie.Need-overflow-sub-read-behind
-sub-read-behind c = search rules
+overflow_sub-n : tie.Need-overflow_sub-n
+overflow_sub-n c = search rules
 
-read-behind-requires : tie.Need-read-behind-requires
-read-behind-requires c κs =
+read_behind-end-requires : tie.Need-read_behind-end-requires
+read_behind-end-requires c κs =
     let g = c.before.before.before.before.before.before in
-    let some : 0 < g.first-number.result.len = omega arith in
-    let first = g.first-number.ensures in
+    let some : 0 < g.first_number-first.result.len = omega arith in
+    let first = g.first_number-first.ensures in
     (some, first.within, first.ends some, omega arith, omega arith, omega arith)
 
-slice-write-out : tie.Need-slice-write-out
-slice-write-out c = search rules
+bounds-out-0 : tie.Need-bounds-out-0
+bounds-out-0 c = search rules
 
-same_length : tie.Need-same-length
-same_length c = search rules
+shape_of-out-then-end-gt0 : tie.Need-shape_of-out-then-end-gt0
+shape_of-out-then-end-gt0 c = search rules
 
-returns-4 : tie.Need-returns-4
-returns-4 c =
+returns-then-end-gt0 : tie.Need-returns-then-end-gt0
+returns-then-end-gt0 c =
     let r = c.before.before.before in
     let g = r.before.before.before.before.before.before.before in
     let a = g.before.before.before.args in
-    let some : 0 < g.first-number.result.len = omega arith in
-    short_read r.read_behind.result a.top a.n g.first-number.result.fk g.first-number.result.len a.buf.now
+    let some : 0 < g.first_number-first.result.len = omega arith in
+    short_read r.read_behind-end.result a.top a.n g.first_number-first.result.fk g.first_number-first.result.len a.buf.now
     a.out.now _
-    g.first-number.ensures some (omega arith) (omega arith) (omega arith) r.read_behind.ensures (omega arith)
+    g.first_number-first.ensures some (omega arith) (omega arith) (omega arith) r.read_behind-end.ensures (omega arith)
 
-same-length-2 : tie.Need-same-length-2
-same-length-2 c = search rules
+shape_of-out-else-end-gt0 : tie.Need-shape_of-out-else-end-gt0
+shape_of-out-else-end-gt0 c = search rules
 
-returns-5 : tie.Need-returns-5
-returns-5 c =
+returns-else-end-gt0 : tie.Need-returns-else-end-gt0
+returns-else-end-gt0 c =
     let r = c.before.before.before in
-    short_unread _ _ _ _ _ _ _ _ _ _ r.read_behind.ensures c.if4.false
+    short_unread _ _ _ _ _ _ _ _ _ _ r.read_behind-end.ensures c.if-end-gt0.false
 
-pub read-by-words-spec : {M : Type 1} → statement M
-read-by-words-spec =
+pub read_by_words_spec : {M : Type 1} → statement M
+read_by_words_spec =
     tie.close
     (tie.spec
-    first-number-requires
-    returns
-    add-if2
-    returns-2
-    add-if3
-    returns-3
-    sub-read-behind
-    read-behind-requires
-    slice-write-out
-    same_length
-    returns-4
-    same-length-2
-    returns-5)
+    first_number-first-requires
+    returns-then-next-eq0
+    overflow_add-first
+    returns-then-first-ge-BIT_63
+    overflow_add-first-2
+    returns-then-top-first
+    overflow_sub-n
+    read_behind-end-requires
+    bounds-out-0
+    shape_of-out-then-end-gt0
+    returns-then-end-gt0
+    shape_of-out-else-end-gt0
+    returns-else-end-gt0)

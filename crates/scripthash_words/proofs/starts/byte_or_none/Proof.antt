@@ -6,19 +6,19 @@ use borrow.Author.Rules.{rules}
 use Rattle.scripthash_words.proofs.starts.byte_or_none.Statement.{statement}
 use Rattle.scripthash_words.proofs.starts.byte_or_none.Tie as tie
 
-shared-slice-read-byte-wide : tie.Need-shared-slice-read-byte-wide
-shared-slice-read-byte-wide c = search rules
+bounds-buf-i : tie.Need-bounds-buf-i
+bounds-buf-i c = search rules
 
-byte-wide-requires : tie.Need-byte-wide-requires
-byte-wide-requires c κs = search rules
+byte_wide-requires : tie.Need-byte_wide-requires
+byte_wide-requires c κs = search rules
+
+returns-then-i-buf : tie.Need-returns-then-i-buf
+returns-then-i-buf c = search rules
 
 returns : tie.Need-returns
-returns c = search rules
-
-returns-2 : tie.Need-returns-2
-returns-2 c =
+returns c =
     let a = c.before.before.args in
     (sym (past_end a.buf.now a.i (omega arith)), omega arith)
 
-pub byte-or-none-spec : {M : Type 1} → statement M
-byte-or-none-spec = tie.close (tie.spec shared-slice-read-byte-wide byte-wide-requires returns returns-2)
+pub byte_or_none_spec : {M : Type 1} → statement M
+byte_or_none_spec = tie.close (tie.spec bounds-buf-i byte_wide-requires returns-then-i-buf returns)

@@ -10,50 +10,50 @@ use Rattle.scripthash_words.proofs.LawsStarts.{found_next}
 use Rattle.scripthash_words.proofs.starts.keep_last.Statement.{statement}
 use Rattle.scripthash_words.proofs.starts.keep_last.Tie as tie
 
-word-at-end-requires : tie.Need-word-at-end-requires
-word-at-end-requires c κs = search rules
+word_at_end-requires : tie.Need-word_at_end-requires
+word_at_end-requires c κs = search rules
 
-mul_words : tie.Need-overflow-mul-words
-mul_words c = search rules
+offset_bounds-words-s : tie.Need-offset_bounds-words-s
+offset_bounds-words-s c = search rules
 
-slice-write-words : tie.Need-slice-write-words
-slice-write-words c = search rules
+bounds-words-s : tie.Need-bounds-words-s
+bounds-words-s c = search rules
 
-sub-ends-form : tie.Need-overflow-sub-ends-form
-sub-ends-form c = search rules
+overflow_sub-i : tie.Need-overflow_sub-i
+overflow_sub-i c = search rules
 
-shared-slice-read-ends-form : tie.Need-shared-slice-read-ends-form
-shared-slice-read-ends-form c = search rules
+bounds-buf-i : tie.Need-bounds-buf-i
+bounds-buf-i c = search rules
 
-ends-form-requires : tie.Need-ends-form-requires
-ends-form-requires c κs = search rules
+ends_form-requires : tie.Need-ends_form-requires
+ends_form-requires c κs = search rules
 
-add-result : tie.Need-overflow-add-result
-add-result c = search rules
+overflow_add-result : tie.Need-overflow_add-result
+overflow_add-result c = search rules
 
-same_length : tie.Need-same-length
-same_length c = search rules
+shape_of-words : tie.Need-shape_of-words
+shape_of-words c = search rules
 
 returns : tie.Need-returns
 returns c =
     let a = c.before.before.before.before.before.args in
     let bs = a.buf.now in
-    let got = c.before.before.word-at-end.ensures in (
+    let got = c.before.before.word_at_end.ensures in (
       search rules,
       search rules,
-      λ from k. rw (c.ends-form.ensures.0, got) (found_next bs from a.i a.s a.words.now k (omega arith) (omega arith)),
+      λ from k. rw (c.ends_form.ensures.0, got) (found_next bs from a.i a.s a.words.now k (omega arith) (omega arith)),
     )
 
-pub keep-last-spec : {M : Type 1} → statement M
-keep-last-spec =
+pub keep_last_spec : {M : Type 1} → statement M
+keep_last_spec =
     tie.close
     (tie.spec
-    word-at-end-requires
-    mul_words
-    slice-write-words
-    sub-ends-form
-    shared-slice-read-ends-form
-    ends-form-requires
-    add-result
-    same_length
+    word_at_end-requires
+    offset_bounds-words-s
+    bounds-words-s
+    overflow_sub-i
+    bounds-buf-i
+    ends_form-requires
+    overflow_add-result
+    shape_of-words
     returns)

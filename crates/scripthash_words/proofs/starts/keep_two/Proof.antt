@@ -6,25 +6,25 @@ use borrow.Author.Rules.{rules}
 use Rattle.scripthash_words.proofs.starts.keep_two.Statement.{statement}
 use Rattle.scripthash_words.proofs.starts.keep_two.Tie as tie
 
-keep-word-requires : tie.Need-keep-word-requires
-keep-word-requires c κs = search rules
+keep_word-t-requires : tie.Need-keep_word-t-requires
+keep_word-t-requires c κs = search rules
 
-add-keep-word : tie.Need-overflow-add-keep-word
-add-keep-word c = search rules
+overflow_add-i : tie.Need-overflow_add-i
+overflow_add-i c = search rules
 
-keep-word-requires-2 : tie.Need-keep-word-requires-2
-keep-word-requires-2 c κs = search rules
+keep_word-requires : tie.Need-keep_word-requires
+keep_word-requires c κs = search rules
 
-same_length : tie.Need-same-length
-same_length c = search rules
+shape_of-words : tie.Need-shape_of-words
+shape_of-words c = search rules
 
 returns : tie.Need-returns
 returns c =
     let a = c.before.before.before.before.before.before.before.before.before.before.args in
-    let one = c.before.before.before.before.before.before.keep_word.ensures in
-    let more = c.before.before.keep-word2.ensures in
+    let one = c.before.before.before.before.before.before.keep_word-t.ensures in
+    let more = c.before.before.keep_word.ensures in
     let place : a.i + 1 + 1 ≡ a.i + 2 = omega arith in
     (omega (arith, one.0, more.0), more.1 ∙ one.1, λ from k. rw place at (more.2 from (one.2 from k)))
 
-pub keep-two-spec : {M : Type 1} → statement M
-keep-two-spec = tie.close (tie.spec keep-word-requires add-keep-word keep-word-requires-2 same_length returns)
+pub keep_two_spec : {M : Type 1} → statement M
+keep_two_spec = tie.close (tie.spec keep_word-t-requires overflow_add-i keep_word-requires shape_of-words returns)

@@ -16,50 +16,50 @@ word_part : (bs : List ℕ) (i : ℕ) → little_endian (part bs i 4) ≡ four_b
 unfolding part four_bytes
 word_part bs i = refl
 
-get-u32-requires : tie.Need-get-u32-requires
-get-u32-requires c κs = search rules
+get_u32-requires : tie.Need-get_u32-requires
+get_u32-requires c κs = search rules
 
-mul_words : tie.Need-overflow-mul-words
-mul_words c = search rules
+offset_bounds-words-s : tie.Need-offset_bounds-words-s
+offset_bounds-words-s c = search rules
 
-slice-write-words : tie.Need-slice-write-words
-slice-write-words c = search rules
+bounds-words-s : tie.Need-bounds-words-s
+bounds-words-s c = search rules
 
-sub-ends-form : tie.Need-overflow-sub-ends-form
-sub-ends-form c = search rules
+overflow_sub-i : tie.Need-overflow_sub-i
+overflow_sub-i c = search rules
 
-shared-slice-read-ends-form : tie.Need-shared-slice-read-ends-form
-shared-slice-read-ends-form c = search rules
+bounds-buf-i : tie.Need-bounds-buf-i
+bounds-buf-i c = search rules
 
-ends-form-requires : tie.Need-ends-form-requires
-ends-form-requires c κs = search rules
+ends_form-requires : tie.Need-ends_form-requires
+ends_form-requires c κs = search rules
 
-add-result : tie.Need-overflow-add-result
-add-result c = search rules
+overflow_add-result : tie.Need-overflow_add-result
+overflow_add-result c = search rules
 
-same_length : tie.Need-same-length
-same_length c = search rules
+shape_of-words : tie.Need-shape_of-words
+shape_of-words c = search rules
 
 returns : tie.Need-returns
 returns c =
     let a = c.before.before.before.before.before.args in
     let bs = a.buf.now in
-    let got = c.before.before.get-u32.ensures ∙ word_part bs a.i in (
+    let got = c.before.before.get_u32.ensures ∙ word_part bs a.i in (
       search rules,
       search rules,
-      λ from k. rw (c.ends-form.ensures.0, got) (found_next bs from a.i a.s a.words.now k (omega arith) (omega arith)),
+      λ from k. rw (c.ends_form.ensures.0, got) (found_next bs from a.i a.s a.words.now k (omega arith) (omega arith)),
     )
 
-pub keep-word-spec : {M : Type 1} → statement M
-keep-word-spec =
+pub keep_word_spec : {M : Type 1} → statement M
+keep_word_spec =
     tie.close
     (tie.spec
-    get-u32-requires
-    mul_words
-    slice-write-words
-    sub-ends-form
-    shared-slice-read-ends-form
-    ends-form-requires
-    add-result
-    same_length
+    get_u32-requires
+    offset_bounds-words-s
+    bounds-words-s
+    overflow_sub-i
+    bounds-buf-i
+    ends_form-requires
+    overflow_add-result
+    shape_of-words
     returns)

@@ -9,40 +9,40 @@ use Rattle.scripthash_words.proofs.LawsStarts.{count_before}
 use Rattle.scripthash_words.proofs.starts.place_before.Statement.{statement}
 use Rattle.scripthash_words.proofs.starts.place_before.Tie as tie
 
-abbrev invariant_loop : tie.invariant_loop
+abbrev invariant_loop : tie.invariant-loop-left
 invariant_loop buf from at more i₀ left₀ i left =
     (0 < from) × (from ≤ i) × (i ≤ at) × (at ≤ length buf) × (length (words_at buf at) + more ≡ length (words_at buf i) + left)
 
-abbrev decreases_loop : tie.decreases_loop
+abbrev decreases_loop : tie.decreases-loop-left
 decreases_loop buf from at more i₀ left₀ i left = i
 
-loop-holds : tie.Need-loop-init invariant_loop decreases_loop
-loop-holds c = (search rules, search rules, search rules, search rules, refl)
+loop-left-init : tie.Need-loop-left-init invariant_loop decreases_loop
+loop-left-init c = (search rules, search rules, search rules, search rules, refl)
 
-returns : tie.Need-returns invariant_loop decreases_loop
-returns c h = absurd (omega (arith, h))
+returns-then-i-from : tie.Need-returns-then-i-from invariant_loop decreases_loop
+returns-then-i-from c h = absurd (omega (arith, h))
 
-sub-i : tie.Need-overflow-sub-i invariant_loop decreases_loop
-sub-i c = search rules
+overflow_sub-i : tie.Need-overflow_sub-i invariant_loop decreases_loop
+overflow_sub-i c = search rules
 
-sub-ends-form : tie.Need-overflow-sub-ends-form invariant_loop decreases_loop
-sub-ends-form c = search rules
+overflow_sub-i-in-loop-left : tie.Need-overflow_sub-i-in-loop-left invariant_loop decreases_loop
+overflow_sub-i-in-loop-left c = search rules
 
-shared-slice-read-ends-form : tie.Need-shared-slice-read-ends-form invariant_loop decreases_loop
-shared-slice-read-ends-form c = search rules
+bounds-buf-i : tie.Need-bounds-buf-i invariant_loop decreases_loop
+bounds-buf-i c = search rules
 
-ends-form-requires : tie.Need-ends-form-requires invariant_loop decreases_loop
-ends-form-requires c κs = search rules
+ends_form-left-requires : tie.Need-ends_form-left-requires invariant_loop decreases_loop
+ends_form-left-requires c κs = search rules
 
-sub-left : tie.Need-overflow-sub-left invariant_loop decreases_loop
-sub-left c = search rules
+overflow_sub-left : tie.Need-overflow_sub-left invariant_loop decreases_loop
+overflow_sub-left c = search rules
 
-loop-less : tie.Need-loop-smaller invariant_loop decreases_loop
-loop-less c = search rules
+loop-left-smaller : tie.Need-loop-left-smaller invariant_loop decreases_loop
+loop-left-smaller c = search rules
 
-loop-again : tie.Need-loop-preserved invariant_loop decreases_loop
-loop-again c =
-    let l = c.before.before.before.before.loop in
+loop-left-preserved : tie.Need-loop-left-preserved invariant_loop decreases_loop
+loop-left-preserved c =
+    let l = c.before.before.before.before.loop-left in
     let a = c.before.before.before.before.before.before.args in
     let count = count_before a.buf.now l.i (omega arith) (omega arith) in (
       search rules,
@@ -50,39 +50,39 @@ loop-again c =
       search rules,
       search rules,
       omega
-          (arith, count, c.ends-form.ensures.0, c.ends-form.ensures.1, l.invariant.4),
+          (arith, count, c.ends_form-left.ensures.0, c.ends_form-left.ensures.1, l.invariant.4),
     )
 
-sub-if2 : tie.Need-overflow-sub-if2 invariant_loop decreases_loop
-sub-if2 c = search rules
+overflow_sub-i-2 : tie.Need-overflow_sub-i-2 invariant_loop decreases_loop
+overflow_sub-i-2 c = search rules
 
-shared-slice-read-if2 : tie.Need-shared-slice-read-if2 invariant_loop decreases_loop
-shared-slice-read-if2 c = search rules
+bounds-buf-i-2 : tie.Need-bounds-buf-i-2 invariant_loop decreases_loop
+bounds-buf-i-2 c = search rules
 
-returns-2 : tie.Need-returns-2 invariant_loop decreases_loop
-returns-2 c h = absurd (omega (arith, h))
+returns-then-buf-i-ge128 : tie.Need-returns-then-buf-i-ge128 invariant_loop decreases_loop
+returns-then-buf-i-ge128 c h = absurd (omega (arith, h))
 
-returns-3 : tie.Need-returns-3 invariant_loop decreases_loop
-returns-3 c h =
-    let l = c.before.before.before.loop in
+returns : tie.Need-returns invariant_loop decreases_loop
+returns c h =
+    let l = c.before.before.before.loop-left in
     (search rules, search rules, omega arith, omega (arith, l.invariant.4))
 
-pub place-before-spec : {M : Type 1} → statement M
-place-before-spec =
+pub place_before_spec : {M : Type 1} → statement M
+place_before_spec =
     tie.close
     (tie.spec
     invariant_loop
     decreases_loop
-    loop-holds
-    returns
-    sub-i
-    sub-ends-form
-    shared-slice-read-ends-form
-    ends-form-requires
-    sub-left
-    loop-less
-    loop-again
-    sub-if2
-    shared-slice-read-if2
-    returns-2
-    returns-3)
+    loop-left-init
+    returns-then-i-from
+    overflow_sub-i
+    overflow_sub-i-in-loop-left
+    bounds-buf-i
+    ends_form-left-requires
+    overflow_sub-left
+    loop-left-smaller
+    loop-left-preserved
+    overflow_sub-i-2
+    bounds-buf-i-2
+    returns-then-buf-i-ge128
+    returns)

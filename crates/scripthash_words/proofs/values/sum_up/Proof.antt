@@ -8,16 +8,16 @@ use Rattle.scripthash_words.proofs.LawsValues.{Summing, summing_start, summing_n
 use Rattle.scripthash_words.proofs.values.sum_up.Statement.{statement}
 use Rattle.scripthash_words.proofs.values.sum_up.Tie as tie
 
-abbrev invariant_loop : tie.invariant_loop
+abbrev invariant_loop : tie.invariant-loop-k
 invariant_loop words n prev out₀ at sum₀ k₀ out sum k =
     (k ≤ n) × (n ≤ length words) × (at + n ≤ length out₀) × (prev + 2 ^ 32 * n < 2 ^ 64) × (sum ≤ prev + 2 ^ 32 * k)
     × (length out ≡ length out₀) × Summing words n prev out₀ at out sum k
 
-abbrev decreases_loop : tie.decreases_loop
+abbrev decreases_loop : tie.decreases-loop-k
 decreases_loop words n prev out₀ at sum₀ k₀ out sum k = n - k
 
-loop-holds : tie.Need-loop-init invariant_loop decreases_loop
-loop-holds c =
+loop-k-init : tie.Need-loop-k-init invariant_loop decreases_loop
+loop-k-init c =
     let a = c.before.before.args in (
       search rules,
       search rules,
@@ -28,74 +28,74 @@ loop-holds c =
       summing_start a.words.now a.n a.prev a.out.now a.at,
     )
 
-mul-widened : tie.Need-overflow-mul-widened invariant_loop decreases_loop
-mul-widened c = search rules
+offset_bounds-words-k : tie.Need-offset_bounds-words-k invariant_loop decreases_loop
+offset_bounds-words-k c = search rules
 
-shared-slice-read-widened : tie.Need-shared-slice-read-widened invariant_loop decreases_loop
-shared-slice-read-widened c = search rules
+bounds-words-k : tie.Need-bounds-words-k invariant_loop decreases_loop
+bounds-words-k c = search rules
 
-widened-requires : tie.Need-widened-requires invariant_loop decreases_loop
-widened-requires c κs = search rules
+widened-sum-requires : tie.Need-widened-sum-requires invariant_loop decreases_loop
+widened-sum-requires c κs = search rules
 
-add-sum : tie.Need-overflow-add-sum invariant_loop decreases_loop
-add-sum c = search rules
+overflow_add-sum : tie.Need-overflow_add-sum invariant_loop decreases_loop
+overflow_add-sum c = search rules
 
-add-out : tie.Need-overflow-add-out invariant_loop decreases_loop
-add-out c = search rules
+overflow_add-out : tie.Need-overflow_add-out invariant_loop decreases_loop
+overflow_add-out c = search rules
 
-mul-out : tie.Need-overflow-mul-out invariant_loop decreases_loop
-mul-out c = search rules
+offset_bounds-out-at : tie.Need-offset_bounds-out-at invariant_loop decreases_loop
+offset_bounds-out-at c = search rules
 
-slice-write-out : tie.Need-slice-write-out invariant_loop decreases_loop
-slice-write-out c = search rules
+bounds-out-at : tie.Need-bounds-out-at invariant_loop decreases_loop
+bounds-out-at c = search rules
 
-add-k : tie.Need-overflow-add-k invariant_loop decreases_loop
-add-k c = search rules
+overflow_add-k : tie.Need-overflow_add-k invariant_loop decreases_loop
+overflow_add-k c = search rules
 
-loop-less : tie.Need-loop-smaller invariant_loop decreases_loop
-loop-less c = search rules
+loop-k-smaller : tie.Need-loop-k-smaller invariant_loop decreases_loop
+loop-k-smaller c = search rules
 
-loop-again : tie.Need-loop-preserved invariant_loop decreases_loop
-loop-again c =
-    let l = c.before.before.before.loop in
+loop-k-preserved : tie.Need-loop-k-preserved invariant_loop decreases_loop
+loop-k-preserved c =
+    let l = c.before.before.before.loop-k in
     let a = c.before.before.before.before.before.before.args in
-    let got = c.widened.ensures.0 in (
+    let got = c.widened-sum.ensures.0 in (
       search rules,
       l.invariant.1,
       l.invariant.2,
       l.invariant.3,
-      omega (arith, c.widened.ensures.1, l.invariant.4),
+      omega (arith, c.widened-sum.ensures.1, l.invariant.4),
       simp length-set l.invariant.5,
       rw got (summing_next a.words.now a.n a.prev a.out.now a.at l.out l.sum l.k l.invariant.6 (omega arith)
           l.invariant.1 (omega arith)),
     )
 
-same_length : tie.Need-same-length invariant_loop decreases_loop
-same_length c = search rules
+shape_of-out : tie.Need-shape_of-out invariant_loop decreases_loop
+shape_of-out c = search rules
 
 returns : tie.Need-returns invariant_loop decreases_loop
 returns c =
-    let l = c.before.loop in
+    let l = c.before.loop-k in
     let a = c.before.before.before.before.args in
     let end = summing_end a.words.now a.n a.prev a.out.now a.at l.out l.sum l.k l.invariant.6 (omega arith) in
     (omega arith, end.0, end.1, l.invariant.5)
 
-pub sum-up-spec : {M : Type 1} → statement M
-sum-up-spec =
+pub sum_up_spec : {M : Type 1} → statement M
+sum_up_spec =
     tie.close
     (tie.spec
     invariant_loop
     decreases_loop
-    loop-holds
-    mul-widened
-    shared-slice-read-widened
-    widened-requires
-    add-sum
-    add-out
-    mul-out
-    slice-write-out
-    add-k
-    loop-less
-    loop-again
-    same_length
+    loop-k-init
+    offset_bounds-words-k
+    bounds-words-k
+    widened-sum-requires
+    overflow_add-sum
+    overflow_add-out
+    offset_bounds-out-at
+    bounds-out-at
+    overflow_add-k
+    loop-k-smaller
+    loop-k-preserved
+    shape_of-out
     returns)
