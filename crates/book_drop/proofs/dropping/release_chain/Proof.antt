@@ -31,11 +31,11 @@ module _ (t : tie.In-loop-left invariant_loop decreases_loop) where
   at = t.before.before.before
 
   abbrev s : Space
-  s = space t.before.loop-left.body at.pre.0 t.before.loop-left.free
+  s = space t.before.loop-left.body at.requires.0 t.before.loop-left.free
 
   stands : is_block page_class t.before.loop-left.off (length t.before.loop-left.body) ≡ true
   stands =
-      let g = t.before.loop-left.invariant.1 at.pre.0 at.pre.1 at.pre.2 in
+      let g = t.before.loop-left.invariant.1 at.requires.0 at.requires.1 at.requires.2 in
       (page_turn s t.before.loop-left.off t.before.loop-left.left g.offs t.loop-left-test.taken g.pages).stands
 
   fits : t.before.loop-left.off + 4096 ≤ length t.before.loop-left.body
@@ -58,7 +58,7 @@ loop-left-smaller c = omega arith
 
 loop-left-preserved : tie.Need-loop-left-preserved invariant_loop decreases_loop
 loop-left-preserved c =
-    let t = c.before.before.before.before.before.before.before in
+    let t = c.before.before.before.before.before.before in
     let r = c.before.before.release_block in
     let next = c.before.before.before.before.before.next_page-next in
     let l = t.before.loop-left in

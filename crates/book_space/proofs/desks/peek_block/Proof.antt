@@ -16,7 +16,7 @@ module _ (t : tie.Start) where
 
 module _ (t : tie.After-is_block) where
   abbrev start : tie.Start
-  start = t.before.before.before.before.before
+  start = t.before.before.before.before.before.before
 
   abbrev class : ℕ
   class = start.args.class
@@ -36,7 +36,7 @@ peek_run-requires c κs = search rules
 
 returns-then-class-eq-SH_PAGE_SLAB_CLASS : tie.Need-returns-then-class-eq-SH_PAGE_SLAB_CLASS
 returns-then-class-eq-SH_PAGE_SLAB_CLASS c =
-    let start = c.before.before.before.before.before in
+    let start = c.before.before.before.before.before.before in
     c.peek_run.ensures
     ∙ sym (page_ahead start.args.class (here start) start.requires.low start.requires.shape
     c.before.before.if-off-eq0.true c.before.if-class-eq-SH_PAGE_SLAB_CLASS.true)
@@ -46,7 +46,7 @@ peek_slab-requires c κs = search rules
 
 returns-then-off-eq0 : tie.Need-returns-then-off-eq0
 returns-then-off-eq0 c =
-    let start = c.before.before.before.before.before in
+    let start = c.before.before.before.before.before.before in
     c.peek_slab.ensures
     ∙ sym (slab_ahead start.args.class (here start) start.requires.low start.requires.shape
     c.before.before.if-off-eq0.true c.before.if-class-eq-SH_PAGE_SLAB_CLASS.false)
