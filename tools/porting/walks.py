@@ -563,6 +563,9 @@ def turn(text, landed, entry, said):
         lambda m: renamed.get(m[1], m[1]),
         text,
     )
+    for a, b in entry.get("args", []):
+        if a.startswith(".args "):
+            text = re.sub(re.escape(a.replace(" ", "")) + r"(?![\w-])", b.replace(" ", ""), text)
     text = re.sub(r"(?<=[\w)])\.inv(?![\w-])", ".invariant", text)
     text = re.sub(r"(?m)^(pub )?(\S+)-spec(?= (?:: \{M|=))", lambda m: f"{m[1] or ''}{kebab(m[2]).replace('-', '_')}_spec", text)
     return text

@@ -27,7 +27,7 @@ use Rattle.book_start.proofs.judging.judge_start.Tie as tie
 module _ (t : tie.Start) where
   -- the free heads, which are lent on
   abbrev free : List ℕ
-  free = t.args.t4
+  free = t.args.free
 
   abbrev ds : List ℕ
   ds = t.args.desks.now
