@@ -24,7 +24,7 @@ BINDER = re.compile(r"\(((?:[^\s(){}.;,:]+ )+): tie\.(\S+?)(?: [^()]*)?\)")
 
 
 def kebab(it):
-    return it.replace("_", "-")
+    return it.replace("_", "-").lower()
 
 
 class Exact(int):
@@ -78,8 +78,8 @@ class Walk:
             way.append(self.parent[way[-1]])
         if not rest:
             return way[min(k, len(way) - 1)], rest
-        if rest[0] in OF_START and "Start" in self.old and self.index["Start"] in way:
-            return self.index["Start"], rest
+        if rest[0] in OF_START and "start" in self.old and self.index["start"] in way:
+            return self.index["start"], rest
         found = [i for i, p in enumerate(way) if self.step[p][0] == kebab(rest[0])]
         found = [i for i in found if i <= k] or found
         if found:
@@ -120,6 +120,8 @@ class Walk:
             return out + [self.arms[here][0], best[0], *path[len(best[1]):]]
         if step != self.step[at][0]:
             return out + rest  # args, ranges and the like
+        if path and step.startswith("if"):
+            path = [{"taken": "true", "left": "false"}.get(path[0], path[0]), *path[1:]]
         if path and path[0] in self.inner[at]:
             path = [self.inner[at][path[0]], *path[1:]]
         if len(path) > 1 and path[0] == "new" and self.callee[at]:
@@ -179,7 +181,7 @@ class Text:
             if j == len(used):
                 continue
             if used[j] in OF_START and j == 0:
-                return walk.index["Start"]
+                return walk.index["start"]
             found = [i for i, p in enumerate(way) if walk.step[p][0] == kebab(used[j]) and i <= k + j]
             if found and j == 0:
                 return way[max(found)]
@@ -328,7 +330,7 @@ class Text:
         return at if at is not None and not rest else None
 
 
-LET = re.compile(rf"\blet ({NAME})(?: : ([^=]*?))? = ")
+LET = re.compile(rf"\blet ({NAME})(?: : ([^=]*?))? =\s+")
 
 
 def turn_body(t, text, env):
@@ -439,14 +441,17 @@ def turn(text, landed, entry, said):
         renamed[mine2] = walk.goals[i]
     lines = text.split("\n")
     out, modules, k = [], [], 0
-    places_declared = {}
     while k < len(lines):
         line = lines[k]
         indent = len(line) - len(line.lstrip())
         if line.strip():
             modules = [(i, names) for i, names in modules if i < indent]
         env = {n: p for _, names in modules for n, p in names.items()}
-        m = MODULE.match(line)
+        if line.lstrip().startswith("module _ "):
+            while not line.endswith(" where"):
+                k += 1
+                line += "\n" + lines[k]
+        m = MODULE.match(line.replace("\n", " "))
         if m:
             names = {}
             for b in BINDER.finditer(m[2]):
@@ -454,11 +459,7 @@ def turn(text, landed, entry, said):
                 if p is not None:
                     names.update({n: p for n in b[1].split()})
             modules.append((indent, names))
-            # outside of the module its places take its argument
-            for n, (p, depth, ind) in list(places_declared.items()):
-                if ind > indent - 1 and depth:
-                    pass
-            out.append(types(t, t.turn_chains(line, env)))
+            out.append(types(t, t.turn_chains(line, {**env, **names})))
             k += 1
             continue
         s = SIGNATURE.match(line)
@@ -567,7 +568,7 @@ def turn(text, landed, entry, said):
         if a.startswith(".args "):
             text = re.sub(re.escape(a.replace(" ", "")) + r"(?![\w-])", b.replace(" ", ""), text)
     text = re.sub(r"(?<=[\w)])\.inv(?![\w-])", ".invariant", text)
-    text = re.sub(r"(?m)^(pub )?(\S+)-spec(?= (?:: \{M|=))", lambda m: f"{m[1] or ''}{kebab(m[2]).replace('-', '_')}_spec", text)
+    text = re.sub(r"(?m)^(pub )?(\S+)-spec(?= (?:: \{M|=))", lambda m: f"{m[1] or ''}{m[2].replace('-', '_')}_spec", text)
     return text
 
 

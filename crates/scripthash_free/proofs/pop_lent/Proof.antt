@@ -19,8 +19,8 @@ module _ (t : tie.After-is_block) where
   abbrev head : ℕ
   head = first_freed args.args.class (lists args.args.body.now args.args.heads.now)
 
-  block_tested : is_block args.args.class head (min args.args.mark (length args.args.body.now)) ≡ t.is_Block.result
-  block_tested = ap (λ (end : ℕ). is_block args.args.class head end) (sym t.before.lower.ensures) ∙ sym t.is_Block.ensures
+  block_tested : is_block args.args.class head (min args.args.mark (length args.args.body.now)) ≡ t.is_block.result
+  block_tested = ap (λ (end : ℕ). is_block args.args.class head end) (sym t.before.lower.ensures) ∙ sym t.is_block.ensures
 
 returns-then-class-gt-SH_PAGE_SLAB_CLASS : tie.Need-returns-then-class-gt-SH_PAGE_SLAB_CLASS
 returns-then-class-gt-SH_PAGE_SLAB_CLASS c =

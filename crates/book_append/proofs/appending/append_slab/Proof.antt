@@ -72,7 +72,7 @@ module _ (t : tie.After-stays) where
 
   -- it is above the last
   above : last known < (start known).args.n
-  above = omega (arith, t.before.before.if-n-last.left)
+  above = omega (arith, t.before.before.if-n-last.false)
 
 -- it stays, and the slab's size was computed
 module _ (c : tie.After-slab_bytes-size) where

@@ -44,7 +44,7 @@ module _ (e : tie.Else-heads-key) where
   from = start e.before.before
 
   known : KeyKnown from.args.desk (b from) from.args.key
-  known = record { shape = shape e.before.before; known = e.before.if-desk.left; keyed = e.if-heads-key.left }
+  known = record { shape = shape e.before.before; known = e.before.if-desk.false; keyed = e.if-heads-key.false }
 
   -- the mark lies within the body
   marked : from.args.mark.now ≤ length from.args.body.now

@@ -33,7 +33,7 @@ module _ (e : tie.Else-shape_broken) where
   start = e.before.before.before.before.before.before
 
   shape : (free : List ℕ) → shape_broken (space start.args.body.now start.args.mark free) (length start.args.heads.now) ≡ false
-  shape free = sym (e.before.shape_broken.ensures free) ∙ e.if-shape_broken.left
+  shape free = sym (e.before.shape_broken.ensures free) ∙ e.if-shape_broken.false
 
   -- the mark lies within the body
   marked : start.args.mark ≤ length start.args.body.now

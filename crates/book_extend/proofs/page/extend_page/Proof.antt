@@ -94,7 +94,7 @@ module _ (e : tie.Else-len-eq0 invariant_loop decreases_loop) where
   n = get_or (from loc).args.fks.now loc.loop-i.i 0
 
   takes : PageTakes n loc.loop-i.prev loc.loop-i.at e.before.form_in_page-len.result
-  takes = e.before.form_in_page-len.ensures.0 (omega (arith, e.if-len-eq0.left))
+  takes = e.before.form_in_page-len.ensures.0 (omega (arith, e.if-len-eq0.false))
 
 tail_end-end-requires : tie.Need-tail_end-end-requires invariant_loop decreases_loop
 tail_end-end-requires c κs = search rules

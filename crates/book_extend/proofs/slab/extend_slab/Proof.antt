@@ -101,7 +101,7 @@ module _ (e : tie.Else-len-eq0 invariant_loop decreases_loop) where
   n = get_or (from loc).args.fks.now loc.loop-i.i 0
 
   takes : SlabTakes (from loc).args.class loc.loop-i.count n loc.loop-i.prev loc.loop-i.at e.before.form_in_slab-len.result
-  takes = e.before.form_in_slab-len.ensures.0 (omega (arith, e.if-len-eq0.left))
+  takes = e.before.form_in_slab-len.ensures.0 (omega (arith, e.if-len-eq0.false))
 
 slab_end-end-requires : tie.Need-slab_end-end-requires invariant_loop decreases_loop
 slab_end-end-requires c κs = search rules

@@ -58,7 +58,7 @@ returns-in-Slab c =
 returns-in-Extent : tie.Need-returns-in-Extent
 returns-in-Extent c =
     let p = c.before in
-    by_place (ground_of p.before.before) p.in-Extent.is c.Chain-length.ensures
+    by_place (ground_of p.before.before) p.in-Extent.is c.chain_length.ensures
 
 pub place_length_spec : {M : Type 1} → statement M
 place_length_spec =

@@ -47,7 +47,7 @@ module _ (t : tie.Else-shape_broken) where
   start = t.before.before.before.before.before.before
 
   good : shape_broken (book start).space (length (book start).heads) ≡ false
-  good = sym (t.before.shape_broken.ensures start.args.free.now) ∙ t.if-shape_broken.left
+  good = sym (t.before.shape_broken.ensures start.args.free.now) ∙ t.if-shape_broken.false
 
 -- the desk is one
 module _ (t : tie.Else-desk) where
@@ -60,7 +60,7 @@ module _ (t : tie.Else-heads-key) where
   shaped = t.before.before
 
   known : key (start shaped) < length (book (start shaped)).heads
-  known = omega (arith, t.if-heads-key.left)
+  known = omega (arith, t.if-heads-key.false)
 
 -- the key is empty
 module _ (t : tie.Else-heads-at-ne0) where
@@ -68,7 +68,7 @@ module _ (t : tie.Else-heads-at-ne0) where
   keyed = t.before.before
 
   empty : word_of (key (start (shaped keyed))) (book (start (shaped keyed))) ≡ 0
-  empty = t.if-heads-at-ne0.left
+  empty = t.if-heads-at-ne0.false
 
 -- the numbers aren't too many
 module _ (t : tie.Else-fks-gt-MAX_OFFERED) where
@@ -79,7 +79,7 @@ module _ (t : tie.Else-fks-gt-MAX_OFFERED) where
   begin = start (shaped there)
 
   few : length (list begin) ≤ max_offered
-  few = omega (arith, t.if-fks-gt-MAX_OFFERED.left)
+  few = omega (arith, t.if-fks-gt-MAX_OFFERED.false)
 
 -- the list was judged
 module _ (k : tie.In-Bytes) where

@@ -59,7 +59,7 @@ module _ (c : tie.After-read_key-counts) where
   call = at there.before
 
   is : (free counts : List ℕ) → asked call free counts ≡ answered reading (in_room (room call) (held call))
-  is free counts = read_key (book call free counts) call.args.key (room call) (whole there.before free counts) there.if-heads-key.left
+  is free counts = read_key (book call free counts) call.args.key (room call) (whole there.before free counts) there.if-heads-key.false
 
 shape_broken-requires : tie.Need-shape_broken-requires
 shape_broken-requires c κs = search rules

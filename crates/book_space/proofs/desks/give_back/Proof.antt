@@ -22,7 +22,7 @@ module _ (t : tie.Else-counts_high) where
   counts = start.args.counts.now
 
   low : counts_high start.args.size counts ≡ false
-  low = sym t.before.counts_high.ensures ∙ t.if-counts_high.left
+  low = sym t.before.counts_high.ensures ∙ t.if-counts_high.false
 
 counts_high-requires : tie.Need-counts_high-requires
 counts_high-requires c κs = search rules

@@ -46,7 +46,7 @@ module _ (t : tie.After-peek_block-ahead) where
 
   tested : freed_untrue (before begun) (counts begun) ≡ false
   unfolding freed_untrue
-  tested = sym t.before.before.before.freed_untrue.ensures ∙ t.before.before.if-freed_untrue.left
+  tested = sym t.before.before.before.freed_untrue.ensures ∙ t.before.before.if-freed_untrue.false
 
 -- the take would be accepted, and leave a mark
 module _ (k : tie.In-Mark) where

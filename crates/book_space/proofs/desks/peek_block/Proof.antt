@@ -21,9 +21,9 @@ module _ (t : tie.After-is_block) where
   abbrev class : ℕ
   class = start.args.class
 
-  tested : is_block class (first_freed class (lists_of (here start))) (pop_end class (here start).mark) ≡ t.is_Block.result
+  tested : is_block class (first_freed class (lists_of (here start))) (pop_end class (here start).mark) ≡ t.is_block.result
   tested =
-      ap (is_block class (first_freed class (lists_of (here start)))) (sym t.before.pop_end.ensures) ∙ sym t.is_Block.ensures
+      ap (is_block class (first_freed class (lists_of (here start)))) (sym t.before.pop_end.ensures) ∙ sym t.is_block.ensures
 
 offset_bounds-free-idx : tie.Need-offset_bounds-free-idx
 offset_bounds-free-idx c = search rules

@@ -150,7 +150,7 @@ returns c =
     let t = begun u.before in
     let gone = unlinked_takes (pages t) (freed t) (off t) (before t) u.unlink-top.ensures.0 u.unlink-top.ensures.1 in
     let done = take_judged (length (before t).body) (desk t) (pages t) (freed t - pages t) (counts t) (later t) (takes t) (stays t)
-    e.before.judge_take-number.ensures e.if-number-ne0.left gone in
+    e.before.judge_take-number.ensures e.if-number-ne0.false gone in
     record { told = done.told; left = done.left; counts = u.before.before.before.before.put_counts.ensures ∙ done.counts }
 
 pub run_freed_for_spec : {M : Type 1} → statement M

@@ -74,7 +74,7 @@ module _ (c : tie.Else-not-is_block invariant_loop decreases_loop) where
   turn = c.before.before.before
 
   stands : is_block (at turn).args.class (off turn) (at turn).args.mark ≡ true
-  stands = sym c.before.is_Block.ensures ∙ not-false _ c.if-not-is_block.false-raw
+  stands = sym c.before.is_block.ensures ∙ not-false _ c.if-not-is_block.false-raw
 
   some : 0 < left turn
   some = let n = c.before.before.if-left-eq0.false in omega arith
@@ -111,7 +111,7 @@ returns-then-not-is_block c free units lent claims m =
     list_strays units lent claims _ (s t free) (at t).args.class (off t) (left t) (work t) (taken t)
     (t.before.loop-off.invariant.goes free units lent claims m)
     (more t)
-    (let n = c.before.before.if-left-eq0.false in omega arith) (sym c.before.is_Block.ensures ∙ not-true _ c.if-not-is_block.true-raw)
+    (let n = c.before.before.if-left-eq0.false in omega arith) (sym c.before.is_block.ensures ∙ not-true _ c.if-not-is_block.true-raw)
 
 claim_block-requires : tie.Need-claim_block-requires invariant_loop decreases_loop
 claim_block-requires c κs =

@@ -65,7 +65,7 @@ module _ (e : tie.Else-held-tally invariant_loop decreases_loop) where
 
   exact : (ds body heads : List ℕ) (mark : ℕ) (free : List ℕ) → Tallied ds (book turn ds body heads mark free) (at turn).args.tally
       → held_count (d turn) (at turn).args.counts.now ≡ pages_of_desk ds (book turn ds body heads mark free) (d turn)
-  exact ds body heads mark free tallied = e.if-held-tally.left ∙ known turn ds body heads mark free tallied
+  exact ds body heads mark free tallied = e.if-held-tally.false ∙ known turn ds body heads mark free tallied
 
 -- the desks are judged
 module _ (f : tie.After-sum_of_lacks invariant_loop decreases_loop) where

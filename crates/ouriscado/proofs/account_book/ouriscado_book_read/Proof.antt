@@ -71,7 +71,7 @@ shape_of-out : tie.Need-shape_of-out
 shape_of-out c = search rules
 
 -- the call is made
-module _ (j : tie.After-judge_call-refusal) (none' : j.judge-call.result ≡ 0) (free : List ℕ) where
+module _ (j : tie.After-judge_call-refusal) (none' : j.judge_call-refusal.result ≡ 0) (free : List ℕ) where
   made : reads_with (lent j) (b j free) (start j).args.key (length (start j).args.out.now) ≡ call j free 0
   made = made_for (lent j) (b j free) (start j).args.key (call j free) {desk = desk_of (lent j) (start j).args.key}
       (j.judge_call-refusal.ensures (start j).args.heads.now free refl) none' refl

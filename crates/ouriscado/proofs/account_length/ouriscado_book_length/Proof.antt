@@ -35,7 +35,7 @@ put_length-requires : tie.Need-put_length-requires
 put_length-requires c κs = search rules
 
 -- the call is turned back
-module _ (j : tie.After-judge_call-refusal) (some' : j.judge-call.result ≢ 0) (free : List ℕ) where
+module _ (j : tie.After-judge_call-refusal) (some' : j.judge_call-refusal.result ≢ 0) (free : List ℕ) where
   back : lengths_with (lent j) (b j free) (start j).args.key ≡ refused j.judge_call-refusal.result
   back = turned_back (lent j) (b j free) (start j).args.key (call j free)
       (j.judge_call-refusal.ensures (start j).args.heads.now free refl) some'
@@ -50,7 +50,7 @@ ouriscado_core_length-requires : tie.Need-ouriscado_core_length-requires
 ouriscado_core_length-requires c κs = search rules
 
 -- the call is made
-module _ (j : tie.After-judge_call-refusal) (none' : j.judge-call.result ≡ 0) (free : List ℕ) where
+module _ (j : tie.After-judge_call-refusal) (none' : j.judge_call-refusal.result ≡ 0) (free : List ℕ) where
   made : lengths_with (lent j) (b j free) (start j).args.key ≡ call j free 0
   made = made_for (lent j) (b j free) (start j).args.key (call j free) {desk = desk_of (lent j) (start j).args.key}
       (j.judge_call-refusal.ensures (start j).args.heads.now free refl) none' refl

@@ -17,7 +17,7 @@ overflow_mul-result c = search rules
 
 returns : tie.Need-returns
 returns c = let d =
-    c.before in sym (behind_is d.before.before.args.page.now d.link-of.result d.link-of.ensures.0 c.if-link-eq1.false)
+    c.before in sym (behind_is d.before.before.args.page.now d.link_of-link.result d.link_of-link.ensures.0 c.if-link-eq1.false)
 
 pub next_off_spec : {M : Type 1} → statement M
 next_off_spec = tie.close (tie.spec link_of-link-requires returns-then-link-eq1 overflow_mul-result returns)

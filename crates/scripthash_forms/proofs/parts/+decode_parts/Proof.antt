@@ -25,8 +25,8 @@ at_measure t = and 2 kinds.ps (is 2 kinds.ps μ_decode_parts t) parts.Pre
 abbrev below : ℕ → In 2 kinds.ps
 below t = and 2 kinds.ps (falls 2 kinds.ps ◌<◌ μ_decode_parts t) parts.Pre
 
-pub +decode-parts-spec : {M : Type 1} → statement M
-+decode-parts-spec = close μ_decode_parts λ t. lts.spec (
+pub +decode_parts_spec : {M : Type 1} → statement M
++decode_parts_spec = close μ_decode_parts λ t. lts.spec (
   through.Asked,
   through.Learnt,
   sum.Asked,
@@ -40,7 +40,7 @@ pub +decode-parts-spec : {M : Type 1} → statement M
     (λ c. search rules)
     (λ c κs. search rules)
     (λ c. search rules)
-    (λ c. c.before.before.before.decode-through.ensures)
+    (λ c. c.before.before.before.decode_through.ensures)
     -- the first 256 of more
     (λ c. search rules)
     (λ c κs. search rules)
@@ -49,10 +49,10 @@ pub +decode-parts-spec : {M : Type 1} → statement M
     (λ c. search rules)
     (λ c. search rules)
     (λ c κs.
-    let s = c.before.before.before.sum-forms.ensures in
+    let s = c.before.before.before.sum_forms.ensures in
     (omega (arith, c.before.before.before.before.before.before.before.before.requires.0), (s.within, s.below, search rules)))
     (λ c. search rules)
-    (λ c. part_none c.before.before.before.decode-parts.result _ _ _ _ _ _ c.before.before.before.decode-parts.ensures
+    (λ c. part_none c.before.before.before.decode_parts.result _ _ _ _ _ _ c.before.before.before.decode_parts.ensures
     (omega arith))
     -- and the copy
     (λ c. search rules)
