@@ -59,13 +59,13 @@ pub +decode_parts_spec : {M : Type 1} → statement M
     (λ c κs. search rules)
     (λ c. search rules)
     (λ c.
-    let more = c.before.before.before.before.before.before.before.before.decode-parts in
+    let more = c.before.before.before.before.before.before.before.before.decode_parts in
     let g = c.before.before.before.before.before in
     let e = g.before.before.before.before.before in
     let f = e.before.before in
-    let s = f.sum-forms in
+    let s = f.sum_forms in
     let start = f.before.before.before.before.before in
     let a = start.args in
     part_more 256 s.result.taken s.result.last more.result a.from a.prev a.n a.at a.buf.now _ a.out.now _ _
     s.ensures (omega (arith, e.if2.false)) (search rules) (omega arith) start.requires.1.2 (omega (arith, g.if3.false))
-    c.before.before.copy-fks.ensures more.ensures)
+    c.before.before.copy_fks.ensures more.ensures)
