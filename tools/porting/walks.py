@@ -246,7 +246,12 @@ class Text:
                         new = before + fields
                     out.append(head + "".join("." + f for f in new))
                 else:
-                    out.append(m[0] + self.write(value, fields, text[pos:stop]))
+                    to = None
+                    if fields and set(fields) == {"before"}:
+                        asker = re.search(rf"({NAME}) \Z", text[max(0, pos - 60):pos])
+                        to = self.takes.get(asker[1]) if asker else None
+                    new = self.walk.chain(value, [], to) if to is not None else None
+                    out.append(m[0] + ("".join("." + f for f in new) if new is not None else self.write(value, fields, text[pos:stop])))
                 at = pos = stop
                 continue
             if fields and m[0] in self.functions and self.functions[m[0]][1] == 0:

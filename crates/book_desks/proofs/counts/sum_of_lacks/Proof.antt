@@ -71,7 +71,7 @@ overflow_add-sum c =
     let l = c.before.before.before.before.before.loop-d in
     omega (
       arith,
-      (start c.before.before.before.before.before).requires l.d c.before.before.before.before.loop-d-test.true,
+      (start c.before.before.before.before.before.before).requires l.d c.before.before.before.before.loop-d-test.true,
       c.without-sum.ensures,
     )
 
@@ -84,7 +84,7 @@ loop-d-smaller c = search rules
 loop-d-preserved : tie.Need-loop-d-preserved invariant_loop decreases_loop
 loop-d-preserved c =
     let l = c.before.before.before.before.before.loop-d in
-    let s = start c.before.before.before.before.before in
+    let s = start c.before.before.before.before.before.before in
     let small = s.requires l.d c.before.before.before.before.loop-d-test.true in (
       search rules,
       sum_step (lack_at s.args.counts.now) l.d l.sum c.without-sum.result l.invariant.1 c.without-sum.ensures,

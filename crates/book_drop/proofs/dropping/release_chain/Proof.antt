@@ -45,10 +45,10 @@ loop-left-init : tie.Need-loop-left-init invariant_loop decreases_loop
 loop-left-init c = (refl, λ mark whole p. record { offs = whole; pages = p; gives = refl })
 
 next_page-next-requires : tie.Need-next_page-next-requires invariant_loop decreases_loop
-next_page-next-requires c κs = fits c.before
+next_page-next-requires c κs = fits c
 
 release_block-requires : tie.Need-release_block-requires invariant_loop decreases_loop
-release_block-requires c κs = stands c.before.before.before.before
+release_block-requires c κs = stands c.before.before.before
 
 overflow_sub-left : tie.Need-overflow_sub-left invariant_loop decreases_loop
 overflow_sub-left c = omega arith

@@ -63,7 +63,7 @@ bounds-counts-0 : tie.Need-bounds-counts-0
 bounds-counts-0 c = search rules
 
 overflow_sub-left : tie.Need-overflow_sub-left
-overflow_sub-left c = few c.before.before
+overflow_sub-left c = few c.before.before.before
 
 judge_take-number-requires : tie.Need-judge_take-number-requires
 judge_take-number-requires c κs =

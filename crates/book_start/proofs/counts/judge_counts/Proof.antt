@@ -68,7 +68,7 @@ to_be_had-had-requires c κs =
     (omega arith, s.within, m)
 
 sum_of_held-requires : tie.Need-sum_of_held-requires
-sum_of_held-requires c κs = small c.before.before.before.before.before
+sum_of_held-requires c κs = small c.before.before.before.before.before.before
 
 overflow_add-sum_of_held : tie.Need-overflow_add-sum_of_held
 overflow_add-sum_of_held c = omega (arith, few c)
@@ -89,7 +89,7 @@ bounds-free-8 c = search rules
 
 freed_pages-requires : tie.Need-freed_pages-requires
 freed_pages-requires c κs =
-    let t = at c.before.before in
+    let t = at c.before.before.before in
     record {
       within = (shape t).0.within;
       ends = t.requires.blocks.ends page_class (omega arith);
@@ -108,12 +108,12 @@ returns-then-freed-freed_pages c =
 
 tally_pages-tally-requires : tie.Need-tally_pages-tally-requires
 tally_pages-tally-requires c κs =
-    let t = at c.before.before.before.before in
+    let t = at c.before.before.before.before.before in
     record { within = (shape t).0.within; most = (shape t).0.most; few = (shape t).1; named = t.requires.named }
 
 judge_desks-requires : tie.Need-judge_desks-requires
 judge_desks-requires c κs =
-    let t = at c.before.before.before.before.before in
+    let t = at c.before.before.before.before.before.before in
     let m = (shape t).0.most in
     λ d h. let r = (low t).reserve d h in omega arith
 

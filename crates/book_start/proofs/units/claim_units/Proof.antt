@@ -43,7 +43,7 @@ slab_bytes-requires : tie.Need-slab_bytes-requires
 slab_bytes-requires c κs = search rules
 
 units_free-requires : tie.Need-units_free-requires
-units_free-requires c κs = inside c.before
+units_free-requires c κs = inside c
 
 shape_of-work-then-not-units_free : tie.Need-shape_of-work-then-not-units_free
 shape_of-work-then-not-units_free c = search rules

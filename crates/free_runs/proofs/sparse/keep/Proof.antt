@@ -34,7 +34,7 @@ module _ (c : tie.After-make_room-got) where
 returns-then-page-limit : tie.Need-returns-then-page-limit
 returns-then-page-limit c =
     let m = c.before.before.make_room-got.ensures in
-    let long = m.keeps.long ∙ (first c.before).requires.places.long in
+    let long = m.keeps.long ∙ (first c.before.before).requires.places.long in
     let few = m.free in
     one_inside _ _ _ _ _ _ _ _ (omega arith) few m.keeps
 

@@ -68,7 +68,7 @@ loop-left-init c =
     record { long = refl; passes = s.ends; stays = s.stays; links = ap (λ (os : List ℕ). relinked os a.body.now) s.same }
 
 get_u64-link-requires : tie.Need-get_u64-link-requires invariant_loop decreases_loop
-get_u64-link-requires c κs = inside c.before
+get_u64-link-requires c κs = inside c
 
 overflow_sub-left : tie.Need-overflow_sub-left invariant_loop decreases_loop
 overflow_sub-left c = omega arith
@@ -84,7 +84,7 @@ pass_over-over-requires c κs =
 relink-requires : tie.Need-relink-requires invariant_loop decreases_loop
 relink-requires c κs =
     let g = c.before.before in
-    record { inside = inside g.before.before; link_is = g.get_u64-link.ensures }
+    record { inside = inside g.before; link_is = g.get_u64-link.ensures }
 
 -- a turn
 module _ (c : tie.After-slice_known-in-loop-left-1 invariant_loop decreases_loop) where

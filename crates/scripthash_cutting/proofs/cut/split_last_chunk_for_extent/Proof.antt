@@ -93,7 +93,7 @@ returns c =
     (words_take (get_or last 1 0) args.fks.now
     (λ i. omega (arith, c.before.before.before.before.before.before.before.before.shared_slice_known-1.given i))) in
     let cut = split_cut args.fks.now args.chunks.now args.count
-    (some c.before.before.before.before.before.before.before) (search rules) c.before.before.before.before.if-end-start.false
+    (some c.before.before.before.before.before.before) (search rules) c.before.before.before.before.if-end-start.false
     c.before.before.before.if-fks-end.false words in
     (c.before.cut_from.ensures.0 ∙ sym cut.0, c.before.cut_from.ensures.1 ∙ sym cut.1)
 

@@ -49,7 +49,7 @@ pub +decode_parts_spec : {M : Type 1} → statement M
     (λ c. search rules)
     (λ c. search rules)
     (λ c κs.
-    let s = c.before.before.before.sum_forms.ensures in
+    let s = c.before.before.before.sum_forms-end.ensures in
     (omega (arith, c.before.before.before.before.before.before.before.before.requires.0), (s.within, s.below, search rules)))
     (λ c. search rules)
     (λ c. part_none c.before.before.before.decode_parts.result _ _ _ _ _ _ c.before.before.before.decode_parts.ensures
@@ -63,7 +63,7 @@ pub +decode_parts_spec : {M : Type 1} → statement M
     let g = c.before.before.before.before.before in
     let e = g.before.before.before.before.before in
     let f = e.before.before in
-    let s = f.sum_forms in
+    let s = f.sum_forms-end in
     let start = f.before.before.before.before.before in
     let a = start.args in
     part_more 256 s.result.taken s.result.last more.result a.from a.prev a.n a.at a.buf.now _ a.out.now _ _
