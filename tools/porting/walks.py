@@ -121,7 +121,7 @@ class Walk:
         if step != self.step[at][0]:
             return out + rest  # args, ranges and the like
         if path and step.startswith("if"):
-            path = [{"taken": "true", "left": "false"}.get(path[0], path[0]), *path[1:]]
+            path = [{"taken": "true", "left": "false", "branch": "branch-raw"}.get(path[0], path[0]), *path[1:]]
         if path and path[0] in self.inner[at]:
             path = [self.inner[at][path[0]], *path[1:]]
         if len(path) > 1 and path[0] == "new" and self.callee[at]:

@@ -120,7 +120,7 @@ split_from room front (p ∷ []) f =
     rw (lt-ltb s (s + length p) (omega (arith, f.0)), le-leb (s + length p) (length (front ++ (p ++ []))) high, numbers_at front p [])
 split_from room front (p ∷ q ∷ ps) f =
     let ih = split_from room (front ++ p) (q ∷ ps) f.2 in
-    ap (λ (rs : List (List ℕ)). range_of (length front) (length front + length p) ∷ rs) (rw (append_assoc, length-append) at ih)
+    ap (λ (rs : List (List ℕ)). range_of (length front) (length front + length p) ∷ rs) (rw (append_assoc front p (joined (q ∷ ps)), length-append) at ih)
 
 -- the ranges of the cutting are those of the greedy parts for pages, with the last one split
 pub pages_split : (ns : List ℕ) → Words ns → ranges_from 0 (cutting ns) ≡ split_ranges ns (ranges_from 0 (greedy page_room ns))

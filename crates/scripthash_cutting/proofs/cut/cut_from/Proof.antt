@@ -48,7 +48,7 @@ long c =
       pages_at_most args.room pre.1 pre.2 (drop args.from args.fks.now)
           (words_drop args.from args.fks.now (λ i. omega (arith, c.before.shared_slice_known-1.given i))),
     ))
-    c.if-free-fks.branch
+    c.if-free-fks.branch-raw
 
 write_ranges-count-requires : tie.Need-write_ranges-count-requires
 write_ranges-count-requires c κs = let pre = c.before.before.before.requires in (pre.0, pre.1, pre.2, long c.before)

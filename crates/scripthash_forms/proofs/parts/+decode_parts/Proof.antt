@@ -52,14 +52,14 @@ pub +decode_parts_spec : {M : Type 1} → statement M
     let s = c.before.before.before.sum_forms-end.ensures in
     (omega (arith, c.before.before.before.before.before.before.before.before.requires.0), (s.within, s.below, search rules)))
     (λ c. search rules)
-    (λ c. part_none c.before.before.before.decode_parts.result _ _ _ _ _ _ c.before.before.before.decode_parts.ensures
+    (λ c. part_none c.before.before.before.decode_parts-taken.result _ _ _ _ _ _ c.before.before.before.decode_parts-taken.ensures
     (omega arith))
     -- and the copy
     (λ c. search rules)
     (λ c κs. search rules)
     (λ c. search rules)
     (λ c.
-    let more = c.before.before.before.before.before.before.before.before.decode_parts in
+    let more = c.before.before.before.before.before.before.before.before.decode_parts-taken in
     let g = c.before.before.before.before.before in
     let e = g.before.before.before.before.before in
     let f = e.before.before in
