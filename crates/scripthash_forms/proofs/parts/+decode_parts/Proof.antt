@@ -67,5 +67,5 @@ pub +decode_parts_spec : {M : Type 1} → statement M
     let start = f.before.before.before.before.before in
     let a = start.args in
     part_more 256 s.result.taken s.result.last more.result a.from a.prev a.n a.at a.buf.now _ a.out.now _ _
-    s.ensures (omega (arith, e.if2.false)) (search rules) (omega arith) start.requires.1.2 (omega (arith, g.if3.false))
+    s.ensures (omega (arith, e.if-next-eq0.false)) (search rules) (omega arith) start.requires.1.2 (omega (arith, g.if-taken-eq0.false))
     c.before.before.copy_fks.ensures more.ensures)
