@@ -24,7 +24,8 @@ BINDER = re.compile(r"\(((?:[^\s(){}.;,:]+ )+): tie\.(\S+?)(?: [^()]*)?\)")
 
 
 def kebab(it):
-    return it.replace("_", "-").lower()
+    it = it.replace("_", "-").lower()
+    return it[:-4] if it.endswith("-lem") else it
 
 
 class Exact(int):
@@ -47,6 +48,7 @@ class Walk:
         self.step = [(kebab(p[2][0]), p[2][1]) for p in entry["places"]]
         self.inner = [dict(p[4]) for p in entry["places"]]
         self.arms = entry["arms"]
+        self.params = entry["params"]
         self.callee = [p[3] for p in entry["places"]]
 
     def record(self, i):
@@ -128,33 +130,15 @@ class Walk:
             path = self.after(self.callee[at], path)
         return out + [self.step[at][1], *path]
 
-    @staticmethod
-    def after(callee, path):
-        """What a call left behind a `&mut` goes by the parameter's name, not by its place among them."""
+    def after(self, callee, path):
+        """What a call left behind a `&mut` goes by the parameter's name, not by its place."""
         k = 1
         while k < len(path) and path[k] == "1":
             k += 1
-        names = lent(callee)
+        names = self.params.get(callee, [])
         if k < len(path) and path[k] == "0" and k - 1 < len(names):
             return ["new", names[k - 1], *path[k + 1:]]
         return path
-
-
-LENT = {}
-
-
-def lent(callee):
-    """The names of the parameters of a function of ours that are lent to be written."""
-    crate, name = callee.split("::")[0], callee.split("::")[-1]
-    if crate not in LENT:
-        LENT[crate] = {}
-        for folder, _, files in os.walk(f"crates/{crate}/src"):
-            for f in files:
-                with open(os.path.join(folder, f), encoding="utf-8") as it:
-                    code = re.sub(r"//[^\n]*", "", it.read())
-                for m in re.finditer(r"\bfn (\w+)(?:<[^>(]*>)?\(([^)]*)\)", code):
-                    LENT[crate].setdefault(m[1], re.findall(r"(?:mut )?(\w+): &(?:'\w+ )?mut\b|&mut (self)\b", m[2]))
-    return [a or b for a, b in LENT[crate].get(name, [])]
 
 
 class Text:

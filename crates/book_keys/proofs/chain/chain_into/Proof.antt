@@ -56,7 +56,7 @@ module _ (c : tie.After-page_into-got invariant_loop decreases_loop) where
   off = turn.before.loop-pages.off
 
   abbrev part : List ℕ
-  part = c.page_into-got.new.1.1.1.0
+  part = c.page_into-got.new.out
 
   room : length (lent out at) ≡ length out - at
   room = length_lent out at turn.before.loop-pages.invariant.1

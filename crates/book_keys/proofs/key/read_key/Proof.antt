@@ -40,7 +40,7 @@ returns c =
     let r = c.before.before.read_place in
     let told = content_at_lem (body_ground a.body.now a.mark) a.word g.in-Head.place (sym g.before.unpack8-got.ensures
     ∙ ap unpack_answer g.in-Head.is) in
-    subst (λ (x : Answer Content). KeyRead (counts_answer r.result) a.out.now r.new.1.1.1.0 x) (sym told) r.ensures
+    subst (λ (x : Answer Content). KeyRead (counts_answer r.result) a.out.now r.new.out x) (sym told) r.ensures
 
 pub read_key_spec : {M : Type 1} → statement M
 read_key_spec =

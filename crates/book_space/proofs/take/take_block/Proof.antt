@@ -34,7 +34,7 @@ fresh t = let p = t.before in
     told_none (class p) (before p) (sym (rw (end_is p) at p.pop_lent-popped.ensures.0) ∙ ap pop_answer t.in-Nothing.is)
 
 -- and the free heads are as before
-unpopped : (t : tie.In-Nothing) → t.before.pop_lent-popped.new.1.0 ≡ (start t.before).args.free.now
+unpopped : (t : tie.In-Nothing) → t.before.pop_lent-popped.new.heads ≡ (start t.before).args.free.now
 unpopped t = let p = t.before in
     left_none (class p) (pop_end (class p) (before p).mark) (lists_of (before p))
     (sym (rw (end_is p) at p.pop_lent-popped.ensures.0) ∙ ap pop_answer t.in-Nothing.is) (rw (end_is p) at p.pop_lent-popped.ensures.1)
@@ -80,7 +80,7 @@ shape_of-body-in-Block c = search rules
 returns-in-Block : tie.Need-returns-in-Block
 returns-in-Block c =
     let t = c.before in
-    let answer = told_block (class t) (before t) t.pop_lent-popped.new.1.0 (sym (rw (end_is t) at t.pop_lent-popped.ensures.0)
+    let answer = told_block (class t) (before t) t.pop_lent-popped.new.heads (sym (rw (end_is t) at t.pop_lent-popped.ensures.0)
     ∙ ap pop_answer c.in-Block.is) (rw (end_is t) at t.pop_lent-popped.ensures.1) in
     takes_yes (before t) _ answer
 

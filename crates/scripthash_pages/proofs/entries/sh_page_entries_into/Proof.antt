@@ -58,7 +58,7 @@ module _ (c : tie.After-decode_fk_delta_stream_into-got) where
   counts : padded_in (place at).count rest ≡ page_padded (page at)
   counts = ap (padded_in (place at).count) (part_to_end (page at) (place at).off) ∙ padded_at (page at) (place at) (is at)
 
-  list : c.decode_fk_delta_stream_into-got.new.1.1.0 ≡ after_decode out decoded
+  list : c.decode_fk_delta_stream_into-got.new.out ≡ after_decode out decoded
   list = c.decode_fk_delta_stream_into-got.ensures.1 ∙ ap (after_decode out) same
 
 stream_place-place-requires : tie.Need-stream_place-place-requires

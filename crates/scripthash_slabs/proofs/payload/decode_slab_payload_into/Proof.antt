@@ -75,7 +75,7 @@ module _ (c : tie.After-decode_fk_delta_stream_into-got) where
         within = omega (arith, ap (λ (t : StreamTold). t.taken) got.2);
       }
 
-  list : c.decode_fk_delta_stream_into-got.new.1.1.0 ≡ after_decode out decoded
+  list : c.decode_fk_delta_stream_into-got.new.out ≡ after_decode out decoded
   list = c.decode_fk_delta_stream_into-got.ensures.1 ∙ ap (after_decode out) slab
 
 returns-then-buf-lt2 : tie.Need-returns-then-buf-lt2

@@ -56,8 +56,8 @@ returns c =
         got.ensures.1,
         sums.0,
         filling_part a.buf.now a.from got.result.at got.result.count some.result a.left a.prev
-            u.sum_up-last.result a.at got.new.1.1.1.0 v.take_values.new.words a.out.now
-            u.sum_up-last.new.1.1.1.0 got.ensures.4 (omega (arith, got.ensures.2, got.ensures.3)) vals.0
+            u.sum_up-last.result a.at got.new.words v.take_values.new.words a.out.now
+            u.sum_up-last.new.out got.ensures.4 (omega (arith, got.ensures.2, got.ensures.3)) vals.0
             some.ensures.0 some.ensures.1 some.ensures.2 st.requires.3 ((vals.1 none).0, (vals.1 none).1) sums.1 sums.2,
       ),
     )

@@ -55,7 +55,7 @@ returns c =
     let got = f.find_starts-got in
     let values = v.take_values in
     rest_read_lem a.buf.now a.from a.prev a.n got.result.at got.result.count p.place_before-end.result u.sum_up.result
-    got.new.1.1.1.0 values.new.words a.out.now u.sum_up.new.1.1.1.0 (λ i h. omega
+    got.new.words values.new.words a.out.now u.sum_up.new.out (λ i h. omega
     (arith, k.shared_slice_known-1.given i))
     k.before.requires.1 k.before.requires.2 got.ensures.4 (omega (arith, got.ensures.2, got.ensures.3)) (omega
     (arith, p.before.before.if-got-n.false)) (omega (arith, v.before.before.if-end-eq0.false))
