@@ -3,7 +3,7 @@ use Rattle.std.proofs.Common.{◌≡◌, ◌-◌, ◌≤◌, length, rules}
 use Rattle.hex_fields.proofs.bytes.Statement.{statement}
 use Rattle.hex_fields.proofs.bytes.Tie as tie
 use Rattle.hex_fields.proofs.byte_at.Reads as byte-at-reads
-use Rattle.hex_fields.proofs.put_bytes-k.Reads as put-bytes-reads
+use Rattle.hex_fields.proofs.put_bytes.Reads as put-bytes-reads
 
 abbrev invariant_loop : tie.invariant-loop-at
 invariant_loop s out₀ at₀ k₀ out at k = (length out ≡ length out₀) × (at ≤ length s)

@@ -2,7 +2,7 @@
 use Rattle.std.proofs.Common.{◌≡◌, ◌-◌, ◌≤◌, length, rules}
 use Rattle.hex_fields.proofs.numbers.Statement.{statement}
 use Rattle.hex_fields.proofs.numbers.Tie as tie
-use Rattle.hex_fields.proofs.put_item-k.Reads as put-item-reads
+use Rattle.hex_fields.proofs.put_item.Reads as put-item-reads
 
 abbrev invariant_loop : tie.invariant-loop-at
 invariant_loop s out₀ at₀ k₀ out at k = (length out ≡ length out₀) × (at ≤ length s)

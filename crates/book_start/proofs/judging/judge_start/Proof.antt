@@ -27,7 +27,7 @@ use Rattle.book_start.proofs.judging.judge_start.Tie as tie
 module _ (t : tie.Start) where
   -- the free heads, which are lent on
   abbrev free : List ℕ
-  free = t.args.t4
+  free = t.args.free
 
   abbrev ds : List ℕ
   ds = t.args.desks.now
@@ -68,13 +68,13 @@ module _ (e : tie.Else-work-bytes) where
   at = called e.before.before
 
   none : call_number (ds at) (book at) ≡ 0
-  none = sym (number e.before.before) ∙ e.before.if-number-ne0.left
+  none = sym (number e.before.before) ∙ e.before.if-number-ne0.false
 
   in_shape : InShape (book at).space
   in_shape = (shape_holds (book at).space (length (book at).heads) (judges_passed (ds at) (book at) (work at) none).0).0
 
   enough : bytes at ≤ length (work at)
-  enough = let h = e.if-work-bytes.left in omega arith
+  enough = let h = e.if-work-bytes.false in omega arith
 
   eight : 8 * bytes at ≡ units at
   eight = let p = in_shape.paged in omega arith
