@@ -122,11 +122,11 @@ class Walk:
             return out + [self.arms[here][0], best[0], *path[len(best[1]):]]
         if step != self.step[at][0]:
             return out + rest  # args, ranges and the like
-        if path and step.startswith("if"):
+        if path and (step.startswith("if") or step.endswith("-test")):
             path = [{"taken": "true", "left": "false", "branch": "branch-raw"}.get(path[0], path[0]), *path[1:]]
         if path and path[0] in self.inner[at]:
             path = [self.inner[at][path[0]], *path[1:]]
-        if len(path) > 1 and path[0] == "new" and self.callee[at]:
+        if len(path) > 1 and path[0] in ("new", "last") and self.callee[at]:
             path = self.after(self.callee[at], path)
         return out + [self.step[at][1], *path]
 

@@ -33,10 +33,10 @@ module _ (t : tie.After-page_for-answer) where
   before = space start.args.body.now start.args.mark.now start.args.free.now
 
   abbrev after : Space
-  after = space t.page_for-answer.last.0 t.page_for-answer.last.1.0 t.page_for-answer.last.1.1.0
+  after = space t.page_for-answer.new.body t.page_for-answer.new.mark t.page_for-answer.new.free
 
   abbrev left : List ℕ
-  left = t.page_for-answer.last.1.1.1.0
+  left = t.page_for-answer.new.counts
 
 -- a block was taken
 module _ (k : tie.In-At) where

@@ -36,7 +36,7 @@ module _ (t : tie.After-slab_for-answer) where
   before = space start.args.body.now start.args.mark.now start.args.free.now
 
   abbrev after : Space
-  after = space t.slab_for-answer.last.0 t.slab_for-answer.last.1.0 t.slab_for-answer.last.1.1.0
+  after = space t.slab_for-answer.new.body t.slab_for-answer.new.mark t.slab_for-answer.new.free
 
 -- a block was taken
 module _ (k : tie.In-At) where

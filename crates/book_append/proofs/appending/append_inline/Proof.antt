@@ -29,10 +29,10 @@ module _ (p : tie.After-move_list-answer) where
   list = start.args.entry ∷ start.args.n ∷ []
 
   abbrev after : Space
-  after = space p.move_list-answer.last.0 p.move_list-answer.last.1.0 p.move_list-answer.last.1.1.0
+  after = space p.move_list-answer.new.body p.move_list-answer.new.mark p.move_list-answer.new.free
 
   abbrev left : List ℕ
-  left = p.move_list-answer.last.1.1.1.0
+  left = p.move_list-answer.new.counts
 
 returns-then-n-entry : tie.Need-returns-then-n-entry
 returns-then-n-entry c used =

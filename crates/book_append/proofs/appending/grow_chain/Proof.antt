@@ -32,10 +32,10 @@ module _ (t : tie.After-page_for-answer) where
   b = book_of start.args.body.now start.args.heads.now start.args.mark.now start.args.free.now start.args.counts.now
 
   abbrev after : Space
-  after = space t.page_for-answer.last.0 t.page_for-answer.last.1.0 t.page_for-answer.last.1.1.0
+  after = space t.page_for-answer.new.body t.page_for-answer.new.mark t.page_for-answer.new.free
 
   abbrev left : List ℕ
-  left = t.page_for-answer.last.1.1.1.0
+  left = t.page_for-answer.new.counts
 
   -- the old last page is sound
   sound : SoundTail b.space start.args.last start.requires.tail

@@ -38,7 +38,7 @@ module _ (r : tie.After-slab_into) where
 
   -- the list with the number behind it, as it is placed
   abbrev list : List ℕ
-  list = take (start.args.used + 1 - 0) (set r.slab_into.last.1.1.1.0 start.args.used start.args.n)
+  list = take (start.args.used + 1 - 0) (set r.slab_into.new.out start.args.used start.args.n)
 
   abbrev numbers : List ℕ
   numbers = start.requires.scan.numbers
@@ -48,7 +48,7 @@ module _ (r : tie.After-slab_into) where
   few = omega (arith, (sound start).counted, (sound start).used_to_256)
 
   -- the list was read to the array's start
-  read_is : r.slab_into.last.1.1.1.0 ≡ overwrite (replicate 257 0) 0 numbers
+  read_is : r.slab_into.new.out ≡ overwrite (replicate 257 0) 0 numbers
   read_is =
       let a = start.args in
       let there = slab_free a.body.now a.mark.now a.free.now a.class a.used a.off ∙ start.requires.sound in
@@ -60,7 +60,7 @@ module _ (r : tie.After-slab_into) where
       (omega (arith, few, (sound start).counted)) read_is
 
   -- the array stays as long
-  room : length (set r.slab_into.last.1.1.1.0 start.args.used start.args.n) ≡ 257
+  room : length (set r.slab_into.new.out start.args.used start.args.n) ≡ 257
   room = simp length-set (ap length read_is ∙ length_overwrite (replicate 257 0) 0 numbers (omega (arith, few)))
 
   -- what is placed is one longer than the list
@@ -73,10 +73,10 @@ module _ (p : tie.After-move_list-answer) where
   read = p.before.before.before.before.before.before.before
 
   abbrev after : Space
-  after = space p.move_list-answer.last.0 p.move_list-answer.last.1.0 p.move_list-answer.last.1.1.0
+  after = space p.move_list-answer.new.body p.move_list-answer.new.mark p.move_list-answer.new.free
 
   abbrev left : List ℕ
-  left = p.move_list-answer.last.1.1.1.0
+  left = p.move_list-answer.new.counts
 
 slice_bounds-slab_into-end : tie.Need-slice_bounds-slab_into-end
 slice_bounds-slab_into-end c = search rules

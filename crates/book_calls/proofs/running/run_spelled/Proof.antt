@@ -51,7 +51,7 @@ module _ (k : tie.In-At invariant_loop decreases_loop) where
 
   -- words are left
   more : loc.loop-at.at < length words
-  more = k.before.before.loop-at-test.taken
+  more = k.before.before.loop-at-test.true
 
   begun : NextIs words loc.loop-at.at (call_at (drop loc.loop-at.at words)) (At k.in-At.behind)
   begun = subst (NextIs _ _ _) k.in-At.is k.before.next_call-next.ensures
@@ -63,9 +63,9 @@ module _ (d : tie.After-run_call-to invariant_loop decreases_loop) where
 
   stepped : (cs : List SpelledCall) → calls_of (words known) ≡ some cs
       → Running (start known).args.desks.now (first known) cs (words known) (start known).args.out.now
-      (book_of d.run_call-to.last.0 d.run_call-to.last.1.0 d.run_call-to.last.1.1.0 d.run_call-to.last.1.1.1.0
-      d.run_call-to.last.1.1.1.1.0)
-      (put_mid (to known) (length (out known) - to known) (out known) d.run_call-to.last.1.1.1.1.1.1.1.1.0)
+      (book_of d.run_call-to.new.body d.run_call-to.new.heads d.run_call-to.new.mark d.run_call-to.new.free
+      d.run_call-to.new.counts)
+      (put_mid (to known) (length (out known) - to known) (out known) d.run_call-to.new.out)
       known.in-At.behind (to known + d.run_call-to.result)
   stepped cs e =
       let r = (loc known).loop-at.invariant.5 cs e in

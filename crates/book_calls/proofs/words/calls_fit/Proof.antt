@@ -34,7 +34,7 @@ module _ (k : tie.In-At invariant_loop decreases_loop) where
 
   -- words are left
   more : loc.loop-at.at < length words
-  more = k.before.before.loop-at-test.taken
+  more = k.before.before.loop-at-test.true
 
   inside : loc.loop-at.at + 3 ≤ length words
   inside = let (b, e, r, l, m) = was_somewhere _ _ _ _ begun in omega (arith, l, m)

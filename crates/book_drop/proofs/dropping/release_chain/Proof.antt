@@ -36,7 +36,7 @@ module _ (t : tie.In-loop-left invariant_loop decreases_loop) where
   stands : is_block page_class t.before.loop-left.off (length t.before.loop-left.body) ≡ true
   stands =
       let g = t.before.loop-left.invariant.1 at.requires.0 at.requires.1 at.requires.2 in
-      (page_turn s t.before.loop-left.off t.before.loop-left.left g.offs t.loop-left-test.taken g.pages).stands
+      (page_turn s t.before.loop-left.off t.before.loop-left.left g.offs t.loop-left-test.true g.pages).stands
 
   fits : t.before.loop-left.off + 4096 ≤ length t.before.loop-left.body
   fits = (block_stands page_class t.before.loop-left.off (length t.before.loop-left.body) stands).ends

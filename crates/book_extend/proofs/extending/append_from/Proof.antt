@@ -49,12 +49,12 @@ module _ (a : tie.After-append_past-answer invariant_loop decreases_loop) where
 
   -- a number was left
   more : loc.loop-i.i < length (start loc).args.fks.now
-  more = a.before.before.before.before.before.before.before.loop-i-test.taken
+  more = a.before.before.before.before.before.before.before.loop-i-test.true
 
   -- the book after it
   abbrev after : Book
-  after = book_of a.append_past-answer.last.0 a.append_past-answer.last.1.0 a.append_past-answer.last.1.1.0 a.append_past-answer.last.1.1.1.0
-      a.append_past-answer.last.1.1.1.1.0
+  after = book_of a.append_past-answer.new.body a.append_past-answer.new.heads a.append_past-answer.new.mark a.append_past-answer.new.free
+      a.append_past-answer.new.counts
 
 -- it was accepted
 module _ (k : tie.In-Appended invariant_loop decreases_loop) where
@@ -145,7 +145,7 @@ go_on-i-requires : tie.Need-go_on-i-requires invariant_loop decreases_loop
 go_on-i-requires c κs =
     let a = did c.before.before.before.before.before in
     let l = loc a in
-    let long : length a.append_past-answer.last.1.0 ≡ length l.loop-i.heads = search rules in
+    let long : length a.append_past-answer.new.heads ≡ length l.loop-i.heads = search rules in
     (omega (arith, (start l).requires.keyed, l.loop-i.invariant.1, long), omega (arith, more a))
 
 loop-i-smaller : tie.Need-loop-i-smaller invariant_loop decreases_loop
@@ -168,7 +168,7 @@ loop-i-preserved c =
       search rules,
       g.go_on-i.ensures.within,
       λ whole x.
-          g.go_on-i.ensures.goes s.args.desk a.append_past-answer.last.1.1.1.0 a.append_past-answer.last.1.1.1.1.0
+          g.go_on-i.ensures.goes s.args.desk a.append_past-answer.new.free a.append_past-answer.new.counts
           s.requires.known whole _ _
           (step_on (l.loop-i.invariant.3 whole x) (more a) (after a) a.append_past-answer.ensures.told a.append_past-answer.ensures.left (is k)
           (l.loop-i.moves + m.moved-moves.result) (l.loop-i.rewritten + (to k).rewritten) counted refl),

@@ -58,12 +58,12 @@ module _ (f : tie.After-extend_in_place-reached) where
   abbrev reach : Reached → Type 0
   reach r =
       let a = (from passed).args in
-      Reaches a.body.now a.heads.now a.mark.now a.key a.fks.now 0 f.extend_in_place-reached.last.0
-      f.extend_in_place-reached.last.1.0 r
+      Reaches a.body.now a.heads.now a.mark.now a.key a.fks.now 0 f.extend_in_place-reached.new.body
+      f.extend_in_place-reached.new.heads r
 
   -- the book then
   abbrev then : Book
-  then = book_of f.extend_in_place-reached.last.0 f.extend_in_place-reached.last.1.0 (from passed).args.mark.now (from passed).args.free.now
+  then = book_of f.extend_in_place-reached.new.body f.extend_in_place-reached.new.heads (from passed).args.mark.now (from passed).args.free.now
       (from passed).args.counts.now
 
 -- they did
@@ -78,7 +78,7 @@ module _ (k : tie.In-To) where
   index = k.in-To.from
 
   in_place : InPlace s.args.body.now s.args.heads.now s.args.mark.now s.args.key (numbers s) 0
-      went.extend_in_place-reached.last.0 went.extend_in_place-reached.last.1.0 index
+      went.extend_in_place-reached.new.body went.extend_in_place-reached.new.heads index
   in_place = subst (reach went) k.in-To.is went.extend_in_place-reached.ensures
 
   -- the whole

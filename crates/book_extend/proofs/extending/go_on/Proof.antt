@@ -47,7 +47,7 @@ module _ (f : tie.After-extend_in_place-reached) where
   abbrev reach : Reached → Type 0
   reach r =
       Reaches (start kept).args.body.now (start kept).args.heads.now (start kept).args.mark (start kept).args.key
-      (start kept).args.fks.now (start kept).args.from f.extend_in_place-reached.last.0 f.extend_in_place-reached.last.1.0 r
+      (start kept).args.fks.now (start kept).args.from f.extend_in_place-reached.new.body f.extend_in_place-reached.new.heads r
 
 returns-then-from-fks : tie.Need-returns-then-from-fks
 returns-then-from-fks c = none c.before.before.before.before (λ more. absurd (omega (arith, more, c.if-from-fks.true)))

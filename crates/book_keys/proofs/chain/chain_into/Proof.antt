@@ -70,7 +70,7 @@ module _ (c : tie.After-page_into-got invariant_loop decreases_loop) where
   reads p e = c.page_into-got.ensures.reads p (ap (λ (n : ℕ). page_into n s off) room ∙ e)
 
   left : most - turn.before.loop-pages.pages ≡ suc (most - (turn.before.loop-pages.pages + 1))
-  left = omega (arith, turn.loop-pages-test.taken)
+  left = omega (arith, turn.loop-pages-test.true)
 
   -- the chain that the whole walk gives, and what is left of it
   filling : (w : Chain) → walk most s start.args.last 0 start.args.first ≡ accepted w

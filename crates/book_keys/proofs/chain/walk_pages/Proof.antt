@@ -138,7 +138,7 @@ returns-then-off-last c =
     ap (λ (n : ℕ). accepted (record { length = count t + n; pages = pages t + 1; padded = padded t + (end d).padded })) (sym (count_is d))
     ∙ ap (λ (n : ℕ). accepted (record { length = count t + length (page d).0.numbers; pages = pages t + 1; padded = padded t + n }))
     (sym (padded_is d))
-    ∙ told_last (asked t) (count t) (pages t) (padded t) (most t) (s t) (at t).args.last (prev t) (off t) t.loop-pages-test.taken
+    ∙ told_last (asked t) (count t) (pages t) (padded t) (most t) (s t) (at t).args.last (prev t) (off t) t.loop-pages-test.true
     (page d).0 (is d)
     c.if-off-last.true
     ∙ t.before.loop-pages.invariant.2
@@ -147,7 +147,7 @@ returns-then-end : tie.Need-returns-then-end invariant_loop decreases_loop
 returns-then-end c =
     let d = c.before.before in
     let t = turn d in
-    told_flagged (asked t) (count t) (pages t) (padded t) (most t) (s t) (at t).args.last (prev t) (off t) t.loop-pages-test.taken
+    told_flagged (asked t) (count t) (pages t) (padded t) (most t) (s t) (at t).args.last (prev t) (off t) t.loop-pages-test.true
     (page d).0 (is d)
     c.before.if-off-last.false
     (ap (λ (e : LinkEndOf). e.last) (page d).2 ∙ c.if-end.true)
@@ -162,7 +162,7 @@ loop-pages-preserved c =
     let t = turn d in
     let last = (at t).args.last in
     let more =
-    told_more (asked t) (count t) (pages t) (padded t) (most t) (s t) last (prev t) (off t) t.loop-pages-test.taken (page d).0 (is d)
+    told_more (asked t) (count t) (pages t) (padded t) (most t) (s t) last (prev t) (off t) t.loop-pages-test.true (page d).0 (is d)
     c.before.if-off-last.false
     (ap (λ (e : LinkEndOf). e.last) (page d).2 ∙ c.if-end.false) in (
       omega arith,

@@ -34,11 +34,11 @@ module _ (d : tie.After-short_slab-short) where
   out = at.args.out.now
 
   -- one that told 0 left the list
-  kept : d.short_slab-short.result ≤ 0 → d.short_slab-short.last.1.1.0 ≡ out
+  kept : d.short_slab-short.result ≤ 0 → d.short_slab-short.new.out ≡ out
   kept e = short_left d.short_slab-short.result out _ _ d.short_slab-short.ensures e
 
   -- and else it read it
-  tried : 0 < d.short_slab-short.result → Tried slab used d.short_slab-short.result out d.short_slab-short.last.1.1.0
+  tried : 0 < d.short_slab-short.result → Tried slab used d.short_slab-short.result out d.short_slab-short.new.out
   tried h = slab_tried slab used d.short_slab-short.result out _ d.short_slab-short.ensures h
 
 -- the slab was judged, and is sound

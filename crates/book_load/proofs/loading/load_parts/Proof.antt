@@ -47,10 +47,10 @@ module _ (t : tie.After-run_for-answer) where
   takes = run_for desk count book.space book.counts
 
   abbrev after : Space
-  after = space t.run_for-answer.last.0 t.run_for-answer.last.1.0 t.run_for-answer.last.1.1.0
+  after = space t.run_for-answer.new.body t.run_for-answer.new.mark t.run_for-answer.new.free
 
   abbrev counted : List ℕ
-  counted = t.run_for-answer.last.1.1.1.0
+  counted = t.run_for-answer.new.counts
 
 -- a run was taken, and can be written
 module _ (k : tie.In-At) where
@@ -136,8 +136,8 @@ returns c =
     let t = taking k in
     does_same
     (sym (run_loaded (desk t) (book t) (start t).args.key (list t) (count t) (start t).requires.cut.parts (taken k) (took k)
-    p.put_run.last.0 p.put_run.ensures))
-    (a.accept_load.ensures (book t) (space p.put_run.last.0 (after t).mark (after t).free) (counted t) refl)
+    p.put_run.new.body p.put_run.ensures))
+    (a.accept_load.ensures (book t) (space p.put_run.new.body (after t).mark (after t).free) (counted t) refl)
 
 pub load_parts_spec : {M : Type 1} → statement M
 load_parts_spec =

@@ -36,7 +36,7 @@ module _ (t : tie.After-place_in_slab-answer) where
   class = start.args.class
 
   abbrev after : Space
-  after = space t.place_in_slab-answer.last.0 t.place_in_slab-answer.last.1.0 t.place_in_slab-answer.last.1.1.0
+  after = space t.place_in_slab-answer.new.body t.place_in_slab-answer.new.mark t.place_in_slab-answer.new.free
 
   abbrev places : Answer Placed
   places = places_into desk book.space book.counts list (some class)

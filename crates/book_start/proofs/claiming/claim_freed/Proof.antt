@@ -59,7 +59,7 @@ module _ (t : tie.In-loop-off invariant_loop decreases_loop) where
   size = t.before.before.block_units-size.result
 
   more : off ≡ 0 → ⊥
-  more z = t.loop-off-test.taken z
+  more z = t.loop-off-test.true z
 
   long : at.args.mark ≤ 16 * length work
   long =

@@ -54,7 +54,7 @@ module _ (t : tie.In-loop-left invariant_loop decreases_loop) where
   work = units_of t.before.loop-left.work
 
   more : 0 < t.before.loop-left.left
-  more = let h = t.loop-left-test.taken in omega arith
+  more = let h = t.loop-left-test.true in omega arith
 
   turn : PageTurn s off t.before.loop-left.left t.before.loop-left.invariant.offs
   turn = page_turn s off t.before.loop-left.left t.before.loop-left.invariant.offs more t.before.loop-left.invariant.rest

@@ -56,7 +56,7 @@ module _ (t : tie.In-loop-d invariant_loop decreases_loop) where
       all = t.before.loop-d.invariant.left ds body heads mark free tallied
 
       known : desk_count d at.args.tally ≡ pages_of_desk ds book d
-      known = tallied d t.loop-d-test.taken
+      known = tallied d t.loop-d-test.true
 
 -- its count is true
 module _ (e : tie.Else-held-tally invariant_loop decreases_loop) where
@@ -123,7 +123,7 @@ returns-then-ceiling-held c ds body heads mark free w =
     let e = c.before in
     let t = turn e in
     ap accepted
-    (sym (desk_high ds (book t ds body heads mark free) (after t) (d t) t.loop-d-test.taken
+    (sym (desk_high ds (book t ds body heads mark free) (after t) (d t) t.loop-d-test.true
     (exact e ds body heads mark free w) c.if-ceiling-held.true)
     ∙ all t ds body heads mark free w)
 
@@ -142,7 +142,7 @@ returns-then-ceiling-counts c ds body heads mark free w =
     let e = o.before in
     let t = turn e in
     ap accepted
-    (sym (desk_reserve ds (book t ds body heads mark free) (after t) (d t) t.loop-d-test.taken
+    (sym (desk_reserve ds (book t ds body heads mark free) (after t) (d t) t.loop-d-test.true
     (exact e ds body heads mark free w) o.if-ceiling-held.false c.if-ceiling-counts.true)
     ∙ all t ds body heads mark free w)
 
@@ -160,7 +160,7 @@ loop-d-preserved c =
       to_end = omega arith;
       left = λ ds body heads mark free w.
           let t = turn e in
-          sym (desk_good ds (book t ds body heads mark free) (after t) (d t) t.loop-d-test.taken
+          sym (desk_good ds (book t ds body heads mark free) (after t) (d t) t.loop-d-test.true
           (exact e ds body heads mark free w) o.if-ceiling-held.false c.if-ceiling-counts.false)
           ∙ all t ds body heads mark free w;
     }

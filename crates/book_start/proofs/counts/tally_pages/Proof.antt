@@ -44,7 +44,7 @@ module _ (t : tie.In-loop-key invariant_loop decreases_loop) where
   long = (list_good ds (length at.args.heads.now) at.requires.named).0
 
   desk : desk_of ds key < desks
-  desk = desk_in_lem ds (length at.args.heads.now) key at.requires.named t.loop-key-test.taken
+  desk = desk_in_lem ds (length at.args.heads.now) key at.requires.named t.loop-key-test.true
 
   few : (k : ℕ) → pages_held (book [] []) k ≤ 2 ^ 29
   few k =
@@ -58,7 +58,7 @@ module _ (t : tie.In-loop-key invariant_loop decreases_loop) where
       let s = tally_small ds (book [] []) t.before.loop-key.tally key (t.before.loop-key.invariant.all [] []) (2 ^ 29) (desk_of ds key)
       few desk in
       let h = at.requires.few in
-      let k = t.loop-key-test.taken in
+      let k = t.loop-key-test.true in
       omega arith
 
   sixteen : length t.before.loop-key.tally ≡ desks

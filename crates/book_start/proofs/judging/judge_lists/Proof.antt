@@ -56,7 +56,7 @@ module _ (t : tie.In-loop-class invariant_loop decreases_loop) where
   go = t.before.loop-class.invariant.goes at.requires.units at.requires.lent at.requires.claims at.requires.marked at.requires.leaves
 
   class_to_8 : class ≤ 8
-  class_to_8 = let e = at.requires.nine in let h = t.loop-class-test.taken in omega arith
+  class_to_8 = let e = at.requires.nine in let h = t.loop-class-test.true in omega arith
 
 loop-class-init : tie.Need-loop-class-init invariant_loop decreases_loop
 loop-class-init c =

@@ -87,7 +87,7 @@ module _ (f : tie.After-fill_bytes) where
   abbrev passed : tie.Else-work-bytes
   passed = f.before.before
 
-  shows : Marked (units (at passed)) (mark (at passed)) (units_of (work (at passed))) [] (units_of f.fill_bytes.last.0)
+  shows : Marked (units (at passed)) (mark (at passed)) (units_of (work (at passed))) [] (units_of f.fill_bytes.new.work)
   shows =
       let t = at passed in
       let long = units_long (work t) in
@@ -108,13 +108,13 @@ module _ (z : tie.After-fill_bytes-2) where
   start = at (passed filled)
 
   judged : JudgesAs (units start) (mark start) (units_of (work start)) (blocks start) keys.judge_keys-got.result
-      (units_of keys.judge_keys-got.last.1.1.1.1.0)
+      (units_of keys.judge_keys-got.new.work)
   judged = keys.judge_keys-got.ensures (units start) (units_of (work start)) (shows filled)
 
   all : judges (ds start) (book start) (length (work start)) ≡ accepted (verdict_of (ds start) (book start))
   all = judges_all (ds start) (book start) (work start) (none (passed filled)) (enough (passed filled))
 
-  left : z.fill_bytes-2.last.0
+  left : z.fill_bytes-2.new.work
       ≡ work_after (bytes start) (work start) (judges (ds start) (book start) (length (work start)))
   left =
       z.fill_bytes-2.ensures ∙ cleared_is (bytes start) _
