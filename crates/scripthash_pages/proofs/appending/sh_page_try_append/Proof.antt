@@ -43,7 +43,7 @@ enum_known-spot c = search rules
 append_form-requires : tie.Need-append_form-requires
 append_form-requires c κs =
     let k = c.before in
-    (omega (arith, (ends k).long), omega (arith, (ends k).few), omega (arith, (roomy k).ranges, (ends k).long))
+    (omega (arith, (ends k).long), omega (arith, (ends k).few), omega (arith, (roomy k).fits, (ends k).long))
 
 enum_told-1 : tie.Need-enum_told-1
 enum_told-1 c = search rules
