@@ -57,7 +57,7 @@ returns c =
     let l = c.before.loop-i in
     let a = c.before.before.args in
     let z : l.i ≡ a.count = omega arith in
-    sift_done _ _ _ _ _ (subst (λ (i : ℕ). Sifting a.end a.kept.now l.auto i l.stay) z l.invariant.sifting)
+    sift_done _ _ _ _ _ (subst (λ (i : ℕ). Sifting a.end a.kept.now l.kept i l.stay) z l.invariant.sifting)
 
 pub drop_behind_spec : {M : Type 1} → statement M
 drop_behind_spec =

@@ -92,7 +92,7 @@ module _ (c : tie.After-slice_known-in-loop-left-1 invariant_loop decreases_loop
   gone = c.before.before.before.before
 
   abbrev turn : tie.In-loop-left invariant_loop decreases_loop
-  turn = gone.before.before.before.before
+  turn = gone.before.before
 
   abbrev to : ℕ
   to = gone.pass_over-over.result.at
