@@ -129,7 +129,7 @@ overflow_add-to c =
     let d = ran c in
     let s = (start (known d)).requires in
     let r = stepped d s.list s.is in
-    omega (arith, r.room, r.same, (start (known d)).good)
+    omega (arith, r.room, r.same, (start (known d)).well_formed)
 
 loop-at-smaller : tie.Need-loop-at-smaller invariant_loop decreases_loop
 loop-at-smaller c = let (b, e, r, l, m) = was_somewhere _ _ _ _ (begun (known (ran c))) in omega (arith, l, m)

@@ -131,7 +131,7 @@ moved-moves-requires c κs = search rules
 overflow_add-moves : tie.Need-overflow_add-moves invariant_loop decreases_loop
 overflow_add-moves c =
     let k = c.before in
-    omega (arith, c.moved-moves.ensures, (few k).1, more (did k), (start (loc (did k))).good)
+    omega (arith, c.moved-moves.ensures, (few k).1, more (did k), (start (loc (did k))).well_formed)
 
 overflow_add-rewritten : tie.Need-overflow_add-rewritten invariant_loop decreases_loop
 overflow_add-rewritten c = omega (arith, (few c.before.before).0)
@@ -139,7 +139,7 @@ overflow_add-rewritten c = omega (arith, (few c.before.before).0)
 overflow_add-i : tie.Need-overflow_add-i invariant_loop decreases_loop
 overflow_add-i c =
     let a = did c.before.before.before.before.before in
-    omega (arith, more a, (start (loc a)).good)
+    omega (arith, more a, (start (loc a)).well_formed)
 
 go_on-i-requires : tie.Need-go_on-i-requires invariant_loop decreases_loop
 go_on-i-requires c κs =

@@ -204,7 +204,7 @@ overflow_add-i : tie.Need-overflow_add-i invariant_loop decreases_loop
 overflow_add-i c =
     let e = c.before.before.before.before.before.before.before.before in
     let more : (loc e).loop-i.i < length (from (loc e)).args.fks.now = e.before.before.before.loop-i-test.true in
-    omega (arith, more, (from (loc e)).good)
+    omega (arith, more, (from (loc e)).well_formed)
 
 loop-i-smaller : tie.Need-loop-i-smaller invariant_loop decreases_loop
 loop-i-smaller c = search rules
