@@ -179,7 +179,7 @@ loop-off-preserved c =
     let b = c.before.before.before.before.claim_block in
     let class = (at t).args.class in
     record {
-      same = b.auto.0 ∙ t.before.loop-off.invariant.same;
+      same = b.auto.work ∙ t.before.loop-off.invariant.same;
       goes = goes c;
     }
 

@@ -120,7 +120,7 @@ loop-left-preserved c =
     let left = t.before.loop-left.left in
     let free = sym b.ensures.free ∙ not-false _ c.before.if-not-claim_block.false-raw in
     record {
-      same = b.auto.0 ∙ t.before.loop-left.invariant.same;
+      same = b.auto.work ∙ t.before.loop-left.invariant.same;
       offs = (turn t).behind;
       rest = subst (λ (n : ℕ). PagesLeft (s t) n (left - 1) (turn t).behind) (sym c.next_page-off.ensures) (turn t).rest;
       goes = λ whole p units lent claims m.

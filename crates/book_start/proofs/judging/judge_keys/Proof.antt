@@ -139,7 +139,7 @@ loop-key-preserved c =
     let t = c.before.before.before.before.before.before in
     let l = t.before in
     record {
-      same = r.auto.1.1.0 ∙ l.loop-key.invariant.same;
+      same = r.auto.work ∙ l.loop-key.invariant.same;
       to_end = omega arith;
       goes = λ units lent m.
           let g = l.loop-key.invariant.goes units lent m in

@@ -138,7 +138,7 @@ loop-class-preserved c =
     let r = c.before.before.before.claim_freed-got in
     let t = c.before.before.before.before.before.before in
     record {
-      same = r.auto.1.1.0 ∙ t.before.loop-class.invariant.same;
+      same = r.auto.work ∙ t.before.loop-class.invariant.same;
       to_end = omega arith;
       goes = λ units lent claims m left.
           let g = t.before.loop-class.invariant.goes units lent claims m left in

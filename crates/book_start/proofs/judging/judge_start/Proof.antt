@@ -127,8 +127,8 @@ module _ (g : tie.After-ground) where
   abbrev ended : tie.After-fill_bytes-2
   ended = g.before.before.before
 
-  body_ground : g.body_ground.result ≡ ground_of (blocks (start ended))
-  body_ground = g.body_ground.ensures ∙ ap (λ (a : Answer Verdict). value_or ground_of a 0) (judged ended).told
+  ground_is : g.ground.result ≡ ground_of (blocks (start ended))
+  ground_is = g.ground.ensures ∙ ap (λ (a : Answer Verdict). value_or ground_of a 0) (judged ended).told
 
 judge_call-number-requires : tie.Need-judge_call-number-requires
 judge_call-number-requires c κs = search rules
@@ -171,8 +171,8 @@ fill_bytes-requires-2 c κs =
     let j = c.before.before.before in
     let f = j.before.before.before.before.before in
     let n = enough (passed f) in
-    let k = f.fill_bytes.auto.0 in
-    let i = j.judge_keys-got.auto.1.1.1.1.0 in
+    let k = f.fill_bytes.auto.work in
+    let i = j.judge_keys-got.auto.work in
     omega arith
 
 ground-requires : tie.Need-ground-requires
@@ -186,7 +186,7 @@ returns-then-ground-ne0 c =
     let g = c.before in
     let z = ended g in
     let t = start z in (
-      (judged z).told ∙ ap accepted (sym (judged_ends (ds t) (book t) (work t) (λ e. c.if-ground-ne0.true (body_ground g ∙ e)))) ∙ sym (all z),
+      (judged z).told ∙ ap accepted (sym (judged_ends (ds t) (book t) (work t) (λ e. c.if-ground-ne0.true (ground_is g ∙ e)))) ∙ sym (all z),
       left z,
     )
 
@@ -200,7 +200,7 @@ judge_counts-requires c κs =
     let t = start z in
     let e = passed (filled z) in
     let p = judges_passed (ds t) (book t) (work t) (none e) in
-    let good = judged_blocks (ds t) (book t) (work t) (sym (body_ground g) ∙ c.before.before.if-ground-ne0.false) in
+    let good = judged_blocks (ds t) (book t) (work t) (sym (ground_is g) ∙ c.before.before.if-ground-ne0.false) in
     record {
       blocks = (judged_start (book t) (nine t) _ p.0 good).0;
       low = p.1;
@@ -219,7 +219,7 @@ returns c =
       c.judge_counts.ensures
           ∙ ap (λ (n : ℕ). accepted (counts_verdict (ds t) (book t) n))
           (o.lost.ensures ∙ ap (λ (a : Answer Verdict). value_or lost_of a 0) (judged z).told)
-          ∙ ap accepted (sym (judged_on (ds t) (book t) (work t) (sym (body_ground g) ∙ o.before.before.if-ground-ne0.false))) ∙ sym (all z),
+          ∙ ap accepted (sym (judged_on (ds t) (book t) (work t) (sym (ground_is g) ∙ o.before.before.if-ground-ne0.false))) ∙ sym (all z),
       left z,
     )
 
