@@ -21,13 +21,13 @@ def texts(words):
 
 class TestWords(unittest.TestCase):
     def test_words_and_comments(self):
-        self.assertEqual(texts(words_of(["f x = g (x .len) -- a comment", "-- another"])), ["f", "x", "=", "g", "(", "x", ".", "len", ")"])
+        self.assertEqual(texts(words_of(["f x = g x.len -- a comment", "-- another"])), ["f", "x", "=", "g", "x", ".", "len"])
 
     def test_a_dash_in_a_name_is_no_comment(self):
-        self.assertEqual(texts(words_of(["start-kept : n -- b"])), ["start-kept", ":", "n"])
+        self.assertEqual(texts(words_of(["start_kept : n -- b"])), ["start_kept", ":", "n"])
 
     def test_tight_dots(self):
-        self.assertEqual([word.tight for word in words_of(["λ x. x .len"]) if word.text == "."], [False, True])
+        self.assertEqual([word.tight for word in words_of(["λ x. x.len"]) if word.text == "."], [False, True])
 
     def test_top_level(self):
         words = words_of(["f (a = b) = c"])
@@ -42,28 +42,28 @@ class TestWords(unittest.TestCase):
 
 class TestSources(unittest.TestCase):
     def test_names_brought_in(self):
-        found = list(brought(["use Prim.Native.Nat.{ℕ, _+_}", "ghost use Rattle·error.specs.Refusal.{Answer, accepted as yes};", "fn main() {"]))
-        self.assertEqual([name for name, _, _ in found], ["ℕ", "_+_", "Answer", "yes"])
-        self.assertEqual(found[0][1], Target("toolchain", "Prim.Native.Nat", "ℕ"))
+        found = list(brought(["use Rattle.std.specs.Prelude.{ℕ, ◌+◌}", "ghost use Rattle.error.specs.Refusal.{Answer, accepted as yes};", "fn main() {"]))
+        self.assertEqual([name for name, _, _ in found], ["ℕ", "◌+◌", "Answer", "yes"])
+        self.assertEqual(found[0][1], Target("toolchain", "Rattle.std.specs.Prelude", "ℕ"))
         self.assertEqual(found[3][1], Target("specs", CRATES / "error/specs/Refusal.antt", "accepted"))
 
     def test_a_type_of_the_code(self):
-        self.assertEqual(target("Rattle·scripthash_layout.specs.declared.head.ShHeadValue.the-variants", "Slab"),
+        self.assertEqual(target("Rattle.scripthash_layout.specs.declared.head.ShHeadValue.TheVariants", "Slab"),
                          Target("code", CRATES / "scripthash_layout/src/head.rt", "ShHeadValue"))
 
     def test_a_declaration_and_what_it_rests_on(self):
-        found = declaration(Target("specs", CRATES / "compact/specs/Uleb128.antt", "afterWrite"))
+        found = declaration(Target("specs", CRATES / "compact/specs/Uleb128.antt", "after_write"))
         self.assertTrue(found.comment[0].startswith("-- What the destination holds afterwards"))
         self.assertEqual(len(found.code), 2)
         rests = {meant.name for meant in Reading([found]).definitions}
-        self.assertLessEqual({"ulebLen", "shortest", "overwrite"}, rests)
-        self.assertNotIn("readUleb", rests)
+        self.assertLessEqual({"uleb_len", "shortest", "overwrite"}, rests)
+        self.assertNotIn("read_uleb", rests)
 
     def test_what_is_not_there_is_wrong(self):
-        with self.assertRaisesRegex(Wrong, "declares no `afterRead`"):
-            declaration(Target("specs", CRATES / "compact/specs/Uleb128.antt", "afterRead"))
+        with self.assertRaisesRegex(Wrong, "declares no `after_read`"):
+            declaration(Target("specs", CRATES / "compact/specs/Uleb128.antt", "after_read"))
         with self.assertRaisesRegex(Wrong, "there is no file"):
-            declaration(Target("specs", CRATES / "compact/specs/Uleb.antt", "afterWrite"))
+            declaration(Target("specs", CRATES / "compact/specs/Uleb.antt", "after_write"))
 
 
 class TestNames(unittest.TestCase):
@@ -71,7 +71,7 @@ class TestNames(unittest.TestCase):
         return [name for _, name in missing_in(text)]
 
     def test_names_that_are_there(self):
-        self.assertEqual(self.missing("`compact`: `read_uleb128`, `len_641`; `book_read/src/reading.rt` and `demand-3`, by `rt check NAME`"), [])
+        self.assertEqual(self.missing("`compact`: `read_uleb128`, `len_641`; `book_read/src/reading.rt` and `demand_3`, by `rt check NAME`"), [])
 
     def test_names_that_are_not(self):
         self.assertEqual(self.missing("`compact`: `read_uleb129`, `len_641`\n`tools/no_such_tool`"), ["read_uleb129", "tools/no_such_tool"])
