@@ -102,26 +102,29 @@ def refused_in(text):
 
 def functions():
     """Every exported function, in the order of the files and of the functions in them: crate ouriscado has them with their comments, and the static
-    library ouriscado_c, where it is there, exports the same."""
+    library ouriscado_c, where it is there, exports the same, with the same clauses."""
     found, out = [], []
     for path in sorted((ROOT / "crates/ouriscado/src").rglob("*.rt")):
         text = path.read_text()
         of_file = list(FUNCTION.finditer(text))
         if len(of_file) != text.count(" fn ouriscado_"):
             fail(f"{path.name} has an exported function with no comment, or in another form")
-        found += [signature(*m.groups()[1:]) for m in of_file]
+        found += [statement(text, m, 2) for m in of_file]
         out += [Function(m) for m in of_file]
     library = ROOT / "crates/ouriscado_c/src"
     if library.is_dir():
-        exported = [signature(*m.groups()) for path in library.rglob("*.rt") for m in EXPORT.finditer(path.read_text())]
+        texts = [path.read_text() for path in library.rglob("*.rt")]
+        exported = [statement(text, m, 1) for text in texts for m in EXPORT.finditer(text)]
         if apart := {name for name, *_ in {*found} ^ {*exported}}:
-            fail(f"crates ouriscado and ouriscado_c have other functions, parameters or results: {', '.join(sorted(apart))}")
+            fail(f"crates ouriscado and ouriscado_c have other functions, parameters, results or clauses: {', '.join(sorted(apart))}")
     return out
 
 
-def signature(name, parameters, result):
-    """A function's name, parameters and result, however they are laid out."""
-    return name, " ".join(parameters.split()).rstrip(","), result
+def statement(text, m, first):
+    """A function's name, parameters, result and clauses, however they are laid out; the first is the match's group for the name."""
+    name, parameters, result = m.group(first, first + 1, first + 2)
+    clauses = text[m.end():text.index("\n{\n", m.end())]
+    return name, " ".join(parameters.split()).rstrip(","), result, " ".join(clauses.split())
 
 
 def refusal_names():
