@@ -1,4 +1,4 @@
-//! Links the static library that `rt staticlib ouriscado` writes: from OURISCADO_LIB, or else from the repository's target/staticlib.
+//! Links the static library that `tools/library` writes: from OURISCADO_LIB, or else from the repository's target/staticlib.
 //!
 //! Where it is missing this warns, and only what links fails then: `cargo doc` and `cargo check` need no library.
 use std::env;
@@ -12,8 +12,8 @@ fn main() {
     println!("cargo:rerun-if-changed={}", archive.display());
     if !archive.is_file() {
         println!("cargo:warning={} is missing: nothing can be linked or run without it", archive.display());
-        println!("cargo:warning=in the repository of Ouriscado run: rt staticlib ouriscado");
-        println!("cargo:warning=it proves the library and writes target/staticlib/libouriscado.a; or set OURISCADO_LIB to the folder that has it");
+        println!("cargo:warning=in the repository of Ouriscado run: tools/library");
+        println!("cargo:warning=it has the library proved and writes target/staticlib/libouriscado.a; or set OURISCADO_LIB to the folder that has it");
     }
     println!("cargo:rustc-link-search=native={}", folder.display());
     println!("cargo:rustc-link-lib=static=ouriscado");

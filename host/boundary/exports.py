@@ -5,9 +5,10 @@ from pathlib import Path
 
 ROOT = Path(__file__).resolve().parent.parent.parent
 NUMBERS = {"u8", "u16", "u32", "u64", "usize", "bool"}
-FUNCTION = re.compile(r'((?://[^\n]*\n)+)#\[no_mangle\]\npub extern "C" fn (\w+)\(([^)]*)\)(?: -> (\w+))?', re.S)
+FUNCTION = re.compile(r'((?://[^\n]*\n)+)(?:#\[[^\n]*\n)*pub (?:extern "C" )?fn (ouriscado_\w+)\(([^)]*)\)(?: -> (\w+))?')
+EXPORT = re.compile(r'#\[unsafe\(no_mangle\)\]\n(?:#\[[^\n]*\n)*pub extern "C" fn (\w+)\(([^)]*)\)(?: -> (\w+))?')
 REFUSAL = re.compile(r"^pub const (\w+): Refusal = (\d+);", re.M)
-SHELL_WORDS = re.compile(r'^ *(\d+) => text::words\(b"([^"]+)"\)', re.M)
+SHELL_WORDS = re.compile(r'^ *(\d+) =>\s*[^"\n]*"([^"]+)"', re.M)
 LISTED = re.compile(r"\d+(?:(?:, | and | to )\d+)*(?=, where|\.?$)")
 BOOK, CORE = "ouriscado_book_", "ouriscado_core_"
 
@@ -100,15 +101,30 @@ def refused_in(text):
 
 
 def functions():
-    """Every exported function, in the order of the files and of the functions in them."""
-    out = []
+    """Every exported function, in the order of the files and of the functions in them: crate ouriscado has them with their comments, and the static
+    library ouriscado_c, where it is there, exports the same, with the same clauses."""
+    found, out = [], []
     for path in sorted((ROOT / "crates/ouriscado/src").rglob("*.rt")):
         text = path.read_text()
-        found = [Function(m) for m in FUNCTION.finditer(text)]
-        if len(found) != text.count("#[no_mangle]"):
+        of_file = list(FUNCTION.finditer(text))
+        if len(of_file) != text.count(" fn ouriscado_"):
             fail(f"{path.name} has an exported function with no comment, or in another form")
-        out += found
+        found += [statement(text, m, 2) for m in of_file]
+        out += [Function(m) for m in of_file]
+    library = ROOT / "crates/ouriscado_c/src"
+    if library.is_dir():
+        texts = [path.read_text() for path in library.rglob("*.rt")]
+        exported = [statement(text, m, 1) for text in texts for m in EXPORT.finditer(text)]
+        if apart := {name for name, *_ in {*found} ^ {*exported}}:
+            fail(f"crates ouriscado and ouriscado_c have other functions, parameters, results or clauses: {', '.join(sorted(apart))}")
     return out
+
+
+def statement(text, m, first):
+    """A function's name, parameters, result and clauses, however they are laid out; the first is the match's group for the name."""
+    name, parameters, result = m.group(first, first + 1, first + 2)
+    clauses = text[m.end():text.index("\n{\n", m.end())]
+    return name, " ".join(parameters.split()).rstrip(","), result, " ".join(clauses.split())
 
 
 def refusal_names():

@@ -11,7 +11,7 @@ impl Book<Vec<u8>, Vec<u64>> {
     ///
     /// A good start that has grown is a good start with the same lists, and a call that [`Refusal::NoRoom`] turned back is accepted once the
     /// body is long enough, save where it needs a slab that would end past [`SLABS_END`](crate::limits::SLABS_END); both are proved
-    /// (`grown-start`, `grown-lists` and `grown-room` in the crate `book_history`):
+    /// (`grown_start`, `grown_lists` and `grown-room` in the crate `book_history`):
     ///
     /// ```
     /// use ouriscado::{Book, Refusal};

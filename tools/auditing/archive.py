@@ -10,7 +10,7 @@ ARCHIVE = ROOT / "target" / "staticlib" / "libouriscado.a"
 def made_from():
     """The files and folders that the archive is made from."""
     yield ROOT / "crates.txt"
-    for name in needed_by("ouriscado"):
+    for name in needed_by("ouriscado_c"):
         for part in ("src", "specs", "proofs"):
             yield from [CRATES / name / part, *(CRATES / name / part).rglob("*")]
 

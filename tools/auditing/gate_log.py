@@ -7,8 +7,7 @@ from sources import CRATES, ROOT, Wrong
 
 LOG = ROOT / "audit" / "gate.log"
 HEAD = re.compile(r"commit (?P<commit>\w+)\ndate (?P<date>.+)\ntoolchain (?P<toolchain>.+)\n")
-REFUSED = re.compile(r"^rt: must-fail (\S+): refused, as it must be \((?:first at )?(.*?)(?:; )?(\d+) s\)$", re.M)
-AT_A_TIME = re.compile(r"^gate: (\d+) checks at a time on (\d+) processors$", re.M)
+REFUSED = re.compile(r"^rt: must-fail (\S+)\.edit: refused, as it must be(?: \([^)\n]*\))?(?:: (?:note: )?(\S+?:\d+:\d+):)?", re.M)
 
 
 def git(*words):
@@ -17,8 +16,7 @@ def git(*words):
 
 
 class GateLog:
-    """A run of the gate: what was proved, with how many functions and axioms, which edits were refused, and which programs ran. Crates and edits stand in the
-    order in which they were checked, with the seconds that each took on the clock; so many were checked at a time."""
+    """A run of the gate: what was proved, with how many functions and axioms, which edits were refused and where, and which programs ran."""
 
     def __init__(self, text):
         head = HEAD.match(text)
@@ -26,27 +24,24 @@ class GateLog:
             raise Wrong("audit/gate.log doesn't begin with a commit, a date and a toolchain: make it by tools/gate")
         self.commit, self.date, self.toolchain = head.group("commit", "date", "toolchain")
         self.lines = text.splitlines()
-        self.functions, self.axioms, self.times = {}, {}, {}
+        self.functions, self.axioms = {}, {}
         self.read_crates()
-        self.refused = {edit: place for edit, place, _ in REFUSED.findall(text)}
-        self.edit_times = {edit: int(seconds) for edit, _, seconds in REFUSED.findall(text)}
-        at_a_time = AT_A_TIME.search(text)
-        self.jobs, self.processors = (int(n) for n in at_a_time.groups()) if at_a_time else (1, 1)
-        self.ran = re.findall(r"^rt: (\w+) ran\b", text, re.M)
+        self.refused = dict(REFUSED.findall(text))
+        self.ran = re.findall(r"^rt: (\w+) ran,", text, re.M)
         self.sums = set(re.findall(r"^logic=proved .*\bsum=(\w+)", text, re.M))
 
     def read_crates(self):
-        """A crate's verdict is the last line before the one that says that it is proved."""
+        """A crate's verdict is the last line before the one that says that it is proved; its tests have one of their own."""
         functions = axioms = None
         for line in self.lines:
-            verdict = re.match(r"logic=proved functions=(\d+)", line)
+            verdict = re.match(r"logic=proved .*?\bfunctions=(\d+)", line)
             if verdict:
                 counted = re.search(r"\baxioms=(\d+)", line)
                 functions, axioms = int(verdict.group(1)), int(counted.group(1)) if counted else 0
-            proved = re.fullmatch(r"rt: (\w+) proved \((\d+) s\)", line)
+            proved = re.fullmatch(r"rt: (\w+)(: its tests are)? proved", line)
             if proved and functions is not None:
-                self.functions[proved.group(1)], self.axioms[proved.group(1)] = functions, axioms
-                self.times[proved.group(1)] = int(proved.group(2))
+                if not proved.group(2):
+                    self.functions[proved.group(1)], self.axioms[proved.group(1)] = functions, axioms
                 functions = axioms = None
 
     def check(self):

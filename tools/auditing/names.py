@@ -10,7 +10,7 @@ from functools import lru_cache
 from sources import CRATES, DECLARES, ROOT
 
 # Words of Rattle, of its contracts and of Rust that documents cite as such, and signs that they explain.
-WORDS = set("requires ensures match rt refusal ? Vec Option Result × ⊎ ≡ ≢ ⊥ ∷ [] λ ⌜ ⌝ ℕ .exit .entry →".split())
+WORDS = set("requires ensures match rt refusal ? Vec Option Result × ⊎ ≡ ≢ ⊥ ∷ [] λ ℕ result .now .old .new →".split())
 DECLARED = {
     ".antt": DECLARES,
     ".rt": re.compile(r"\b(?:fn|enum|struct|type|const|mod) (\w+)|^ +([A-Z]\w*)(?=[,({ ])", re.M),
@@ -81,7 +81,13 @@ def is_there(name):
     owner, colons, method = name.partition("::")
     if colons:
         return any({owner, method} <= declared_in(path) for path in files())
-    return name in WORDS or bool(called(name)) or stands_in(name, files()) or any(fits(name, folder) for folder in folders())
+    return name in WORDS or bool(called(name)) or stands_in(name, files()) or any(fits(name, folder) for folder in folders()) or is_projection(name)
+
+
+def is_projection(name):
+    """A part of a value, as `b.heads`, or what a reference holds, as `body.old`."""
+    value, dot, part = name.partition(".")
+    return re.fullmatch("[a-z]+", value) is not None and (dot + part in WORDS or stands_in(part, [path for path in files() if path.suffix == ".antt"]))
 
 
 def missing_in(text):

@@ -58,14 +58,22 @@ class Reading:
 
 
 @lru_cache(None)
+def uses():
+    """The crates, in the order of crates.txt, each with those that it names there."""
+    return {name: named.split() for name, named in re.findall(r"^(\w+)[^:#\n]*:([^#\n]*)", (ROOT / "crates.txt").read_text(), re.M)}
+
+
 def crate_names():
     """The crates, in the order of crates.txt."""
-    return re.findall(r"^(\w+):", (ROOT / "crates.txt").read_text(), re.M)
+    return list(uses())
 
 
 def needed_by(crate):
-    """A crate, and those that it needs by crates.txt."""
-    return [crate, *re.search(rf"^{crate}:(.*)$", (ROOT / "crates.txt").read_text(), re.M)[1].split()]
+    """A crate, those that it names in crates.txt, and those that these name in turn; libraries of the toolchain are left out."""
+    found = [crate]
+    for name in found:
+        found += [other for other in uses().get(name, []) if other in uses() and other not in found]
+    return found
 
 
 def rank(path):

@@ -1,6 +1,6 @@
 """The repository's files: what each declares, and what its names mean.
 
-`use M.{a, b as c}` brings names in. An underscore in a name marks an argument's place: `_≡_` is used as `≡`. Each word of a declaration that is followed
+`use M.{a, b as c}` brings names in. A circle in a name marks an argument's place: `◌≡◌` is used as `≡`. Each word of a declaration that is followed
 must be known: a bound variable, a name that the file declares or brings in, or one of the words below. One that isn't known is an error, so that nothing is
 passed over.
 """
@@ -15,13 +15,13 @@ from words import NAME, Use, Walk, words_of
 ROOT = Path(__file__).resolve().parents[2]
 CRATES = ROOT / "crates"
 
-SYNTAX = set("→ λ × = : ⌜ ⌝ _ Type record where".split())
-PRELUDE = {"Unit": "Prim", "tt": "Prim", "⊥": "Prim", "¬": "Prim", "now": "borrow"}
+SYNTAX = set("→ λ × = : _ Type record where".split())
+PRELUDE = {"Unit": "Prim", "tt": "Prim", "⊥": "Prim", "¬": "Prim"}
 TOOLCHAIN_CONSTRUCTORS = set("zero suc [] ∷ true false none some refl tt".split())
 
 USE = re.compile(r"(?:ghost )?use (\S+)\.\{(.*)\};?")
 PASSES_ON = re.compile(r"^(?:unfoldable )?pub use (\S+)\.\{(.*)\}$", re.M)
-OURS = re.compile(r"Rattle·([a-z0-9_]+)(?:·(?:specs|proofs))?\.(specs|proofs)\.(.+)")
+OURS = re.compile(r"Rattle\.([a-z0-9_]+)\.(specs|proofs)\.(.+)")
 DECLARES = re.compile(rf"^\s*(?:(?:unfoldable|abbrev|pub) )*(?:(data|record) ({NAME})|({NAME})(?= (?:\{{[^}}]*\}} )?:(?: |$)))", re.M)
 
 # What a name means: `kind` is specs, proofs, code (a type declared in src/) or toolchain, `where` a file or a toolchain's module.
@@ -52,11 +52,11 @@ def brought(lines):
 def target(module, name):
     """What a name of a module means."""
     ours = OURS.fullmatch(module)
-    if not ours:
+    if not ours or not (CRATES / ours.group(1)).is_dir():
         return Target("toolchain", module, name)
     crate, folder, rest = ours.groups()
     if rest.startswith("declared."):
-        name = rest.removesuffix(".the-variants").split(".")[-1]
+        name = rest.removesuffix(".TheVariants").split(".")[-1]
         return Target("code", code_file(crate, name), name)
     path = CRATES / crate / folder / (rest.replace(".", "/") + ".antt")
     passed = passed_on(path).get(name)
@@ -122,7 +122,7 @@ class Source:
         """What a word means; none where it is bound, a numeral or syntax."""
         if any(text in scope for scope in scopes) or text in SYNTAX or re.fullmatch(r"[0-9]\w*", text):
             return None
-        for name in (text, f"_{text}_", f"{text}_"):
+        for name in (text, f"◌{text}◌", f"{text}◌"):
             if name in self.brings:
                 return self.brings[name]
         if text in self.declares:
@@ -213,7 +213,9 @@ class Code(Source):
     def add(self, name, row):
         """A type, or a function up to its body."""
         end = row if self.lines[row].endswith(";") else next(i for i in range(row, len(self.lines)) if self.lines[i] in ("}", "{"))
-        top = row - self.lines[row - 1].startswith("#[")
+        top = row
+        while self.lines[top - 1].startswith("#["):
+            top -= 1
         first = self.comment_above(top, "//")
         self.declares[name] = Declaration(self, name, first + 1, self.lines[first:top], self.lines[row : end + (self.lines[end] != "{")])
 
@@ -223,7 +225,7 @@ class Code(Source):
         while row < len(found.code):
             line, end = found.code[row], row + 1
             if line.lstrip().startswith(("ensures", "requires")):
-                end = next(i for i in range(row, len(found.code)) if found.code[i].endswith("⌝ }")) + 1
+                end = next(i for i in range(row, len(found.code)) if is_closed(found.code[row : i + 1])) + 1
                 uses += self.contract(found, row, found.code[row:end])
             else:
                 uses += [Use(row, m.start(1), len(m.group(1)), self.type_named(m.group(1))) for m in re.finditer(r"(?:[:([&] ?|> )([A-Z]\w+)", line)]
@@ -231,10 +233,10 @@ class Code(Source):
         return uses
 
     def contract(self, found, row, lines):
-        """What one clause of a contract says, in which the function's parameters are bound."""
+        """What one clause of a contract says, in which the function's parameters and its result are bound."""
         words = words_of(lines)
         head = "".join(takewhile(lambda line: not line.lstrip().startswith(("ensures", "requires")), found.code))
-        walk = Walk(self, re.findall(r"(\w+):", head))
+        walk = Walk(self, ["result", *re.findall(r"(\w+):", head)])
         walk.expression(words[next(i for i, word in enumerate(words) if word.text == "{") :])
         return [use._replace(row=row + use.row) for use in walk.found]
 
@@ -246,6 +248,12 @@ class Code(Source):
             if match and match.group(1) != "crate":
                 crate = match.group(1)
         return Target("code", code_file(crate, name), name)
+
+
+def is_closed(lines):
+    """Whether each brace of some lines is closed."""
+    text = "".join(lines)
+    return text.count("{") == text.count("}")
 
 
 @lru_cache(None)

@@ -1,18 +1,21 @@
 """Why a check refused an edited crate, by what it said.
 
-A need of a function is named after what asks it: `returns` is the function's own contract, `loop-again` a loop's invariant, `G-requires` what the function
-G asks of its callers, and the others are safety. `F-spec` joins what was shown of F's needs, and doesn't where the needs are others than before; of functions
-that call themselves, `+F-spec` shows them in place. Outside of a function's proof a law is refused, or a definition.
+A goal of a function is named after what asks it: `returns` is the function's own contract, `loop-i-preserved` a loop's invariant, `G-requires` what the
+function G asks of its callers, and the others are safety. `F_spec` joins what was shown of F's goals, and doesn't where the goals are others than before; of
+functions that call themselves, `+F_spec` shows them in place. Outside of a function's proof a law is refused, or a definition.
 """
 import re
 from collections import namedtuple
 
-# Needs of safety alone: nothing wraps, is cut off or is divided by 0, each place is within its slice, and each loop ends.
-SAFETY = re.compile(
-    r"(add|sub|mul|neg|div|rem|shl|shr|cast|int|float|index|part|slice|shared-slice|array|element|val|same)-|same-(length|references)|.*-less(-\d+)?$")
+# Goals of safety alone: nothing wraps, is cut off or is divided by 0, each place is within its slice, and each loop ends.
+SAFETY = re.compile(r"(overflow|bounds|slice_bounds|offset_bounds|shape_of|enum_known|enum_told|div|rem)(_\w+)?-|same-(length|references)|.*-smaller(-\d+)?$")
+# The files of a function's proof.
+PROOF = re.compile(r"(^|/)proofs/.*/(Proof|Answers|Invariants)\.antt$")
 REFUSED = re.compile(r"^(?P<file>\S+?):(?P<line>\d+):\d+: error: `(?P<name>[^`]+)`: (?P<why>.*)$", re.M)
 # What isn't met in a function that has no proof of its own.
-UNMET = re.compile(r"^note: (?P<file>\S+?):(?P<line>\d+):\d+: .*\(`(?P<name>[^`]+)`\)$", re.M)
+UNMET = re.compile(r"^note: (?P<file>\S+?):(?P<line>\d+):\d+: it is not proved .*\(`(?P<name>[^`]+)`\)(;.*)?$", re.M)
+# A proof that names what its function no longer has.
+GONE = re.compile(r"has no `|has no field|is not in scope")
 
 # What was refused: its kind (contract, law, asked, safety or shape), its name, and its place in the crate.
 Ground = namedtuple("Ground", "kind name place")
@@ -22,13 +25,13 @@ Verdict = namedtuple("Verdict", "word ground")
 
 def kind_of(file, name, why):
     """The kind of a ground."""
-    in_proof = file.endswith("/Proof.antt")
-    if in_proof and ("that can be named from here" in why or (name.endswith("-spec") and not name.startswith("+"))):
+    in_proof = PROOF.search(file)
+    if in_proof and (GONE.search(why) or (name.endswith("_spec") and not name.startswith("+"))):
         return "shape"
     if in_proof or not file.endswith(".antt"):
         if SAFETY.match(name):
             return "safety"
-        if re.search(r"-requires(-\d+)?$", name):
+        if re.search(r"-requires(-|$)", name):
             return "asked"
         return "contract"
     return "law"
@@ -38,7 +41,7 @@ def grounds(said, crate):
     """All that was refused by itself, and not because something that it uses was."""
     found = [m for m in REFUSED.finditer(said) if "was not admitted" not in m["why"]] + list(UNMET.finditer(said))
     return [Ground(kind_of(m["file"], m["name"], m.groupdict().get("why", "")), m["name"],
-                   m["file"].split(f"/crates/{crate}/")[-1] + ":" + m["line"]) for m in found]
+                   m["file"].split(f"/crates/{crate}/")[-1].removeprefix("./") + ":" + m["line"]) for m in found]
 
 
 def first(found, *kinds):

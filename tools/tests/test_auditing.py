@@ -21,13 +21,13 @@ def texts(words):
 
 class TestWords(unittest.TestCase):
     def test_words_and_comments(self):
-        self.assertEqual(texts(words_of(["f x = g (x .len) -- a comment", "-- another"])), ["f", "x", "=", "g", "(", "x", ".", "len", ")"])
+        self.assertEqual(texts(words_of(["f x = g x.len -- a comment", "-- another"])), ["f", "x", "=", "g", "x", ".", "len"])
 
     def test_a_dash_in_a_name_is_no_comment(self):
-        self.assertEqual(texts(words_of(["start-kept : n -- b"])), ["start-kept", ":", "n"])
+        self.assertEqual(texts(words_of(["start_kept : n -- b"])), ["start_kept", ":", "n"])
 
     def test_tight_dots(self):
-        self.assertEqual([word.tight for word in words_of(["λ x. x .len"]) if word.text == "."], [False, True])
+        self.assertEqual([word.tight for word in words_of(["λ x. x.len"]) if word.text == "."], [False, True])
 
     def test_top_level(self):
         words = words_of(["f (a = b) = c"])
@@ -42,28 +42,28 @@ class TestWords(unittest.TestCase):
 
 class TestSources(unittest.TestCase):
     def test_names_brought_in(self):
-        found = list(brought(["use Prim.Native.Nat.{ℕ, _+_}", "ghost use Rattle·error.specs.Refusal.{Answer, accepted as yes};", "fn main() {"]))
-        self.assertEqual([name for name, _, _ in found], ["ℕ", "_+_", "Answer", "yes"])
-        self.assertEqual(found[0][1], Target("toolchain", "Prim.Native.Nat", "ℕ"))
+        found = list(brought(["use Rattle.std.specs.Prelude.{ℕ, ◌+◌}", "ghost use Rattle.error.specs.Refusal.{Answer, accepted as yes};", "fn main() {"]))
+        self.assertEqual([name for name, _, _ in found], ["ℕ", "◌+◌", "Answer", "yes"])
+        self.assertEqual(found[0][1], Target("toolchain", "Rattle.std.specs.Prelude", "ℕ"))
         self.assertEqual(found[3][1], Target("specs", CRATES / "error/specs/Refusal.antt", "accepted"))
 
     def test_a_type_of_the_code(self):
-        self.assertEqual(target("Rattle·scripthash_layout.specs.declared.head.ShHeadValue.the-variants", "Slab"),
+        self.assertEqual(target("Rattle.scripthash_layout.specs.declared.head.ShHeadValue.TheVariants", "Slab"),
                          Target("code", CRATES / "scripthash_layout/src/head.rt", "ShHeadValue"))
 
     def test_a_declaration_and_what_it_rests_on(self):
-        found = declaration(Target("specs", CRATES / "compact/specs/Uleb128.antt", "afterWrite"))
+        found = declaration(Target("specs", CRATES / "compact/specs/Uleb128.antt", "after_write"))
         self.assertTrue(found.comment[0].startswith("-- What the destination holds afterwards"))
         self.assertEqual(len(found.code), 2)
         rests = {meant.name for meant in Reading([found]).definitions}
-        self.assertLessEqual({"ulebLen", "shortest", "overwrite"}, rests)
-        self.assertNotIn("readUleb", rests)
+        self.assertLessEqual({"uleb_len", "shortest", "overwrite"}, rests)
+        self.assertNotIn("read_uleb", rests)
 
     def test_what_is_not_there_is_wrong(self):
-        with self.assertRaisesRegex(Wrong, "declares no `afterRead`"):
-            declaration(Target("specs", CRATES / "compact/specs/Uleb128.antt", "afterRead"))
+        with self.assertRaisesRegex(Wrong, "declares no `after_read`"):
+            declaration(Target("specs", CRATES / "compact/specs/Uleb128.antt", "after_read"))
         with self.assertRaisesRegex(Wrong, "there is no file"):
-            declaration(Target("specs", CRATES / "compact/specs/Uleb.antt", "afterWrite"))
+            declaration(Target("specs", CRATES / "compact/specs/Uleb.antt", "after_write"))
 
 
 class TestNames(unittest.TestCase):
@@ -71,7 +71,7 @@ class TestNames(unittest.TestCase):
         return [name for _, name in missing_in(text)]
 
     def test_names_that_are_there(self):
-        self.assertEqual(self.missing("`compact`: `read_uleb128`, `len_641`; `book_read/src/reading.rt` and `demand-3`, by `rt check NAME`"), [])
+        self.assertEqual(self.missing("`compact`: `read_uleb128`, `len_641`; `book_read/src/reading.rt` and `demand_3`, by `rt check NAME`"), [])
 
     def test_names_that_are_not(self):
         self.assertEqual(self.missing("`compact`: `read_uleb129`, `len_641`\n`tools/no_such_tool`"), ["read_uleb129", "tools/no_such_tool"])
@@ -148,16 +148,23 @@ LOG = """\
 commit 0123abcd
 date 2026-01-02 03:04 UTC
 toolchain rattle-kit 7 sum feed
-gate: 4 checks at a time on 2 processors
+== error
 logic=proved functions=3 sum=feed native=nat
-rt: error proved (5 s)
-logic=proved functions=11 sum=feed axioms=2
-rt: table proved (17 s)
-rt: must-fail error/refuse_if_never: refused, as it must be (first at proofs/LawsAnswer.antt:21:5; 6 s)
-rt: must-fail table/s6_no_count: refused, as it must be (9 s)
-rt: table ran as nobody, and wrote what its file 'stdout' has (0 s)
-rt: ok, 2 crates proved, 2 must-fail edits refused
-4 passed, 0 failed
+rt: error proved
+rt: error: trying its must-fail edits (1)
+== table: its tests
+logic=proved tests=1 functions=12 axioms=9 sum=feed
+rt: table: its tests are proved
+== table
+logic=proved functions=11 axioms=2 sum=feed
+rt: table proved
+rt: must-fail error/refuse_if_never.edit: refused, as it must be: proofs/LawsAnswer.antt:21:5: error: `again`: expected type `a`
+rt: must-fail table/s6_no_count.edit: refused, as it must be
+rt: must-fail table/s7.edit: refused, as it must be (only because a proof file names what the edit took away): note: src/main.rt:8:5: not met
+rt: table ran, and wrote what its file stdout has
+rt: table ran (built by Rattle's own compiler), and wrote what its file stdout has
+rt: ok; handles allowed: none; must-fail edits: 3 refused; every proof and must-fail edit was done in this run
+5 passed, 0 failed
 """
 
 
@@ -166,13 +173,16 @@ class TestGateLog(unittest.TestCase):
         log = GateLog(LOG)
         self.assertEqual((log.commit, log.date, log.toolchain), ("0123abcd", "2026-01-02 03:04 UTC", "rattle-kit 7 sum feed"))
         self.assertEqual((log.functions, log.axioms), ({"error": 3, "table": 11}, {"error": 0, "table": 2}))
-        self.assertEqual((log.times, log.edit_times), ({"error": 5, "table": 17}, {"error/refuse_if_never": 6, "table/s6_no_count": 9}))
-        self.assertEqual(log.refused, {"error/refuse_if_never": "proofs/LawsAnswer.antt:21:5", "table/s6_no_count": ""})
-        self.assertEqual((log.ran, log.sums, log.jobs, log.processors), (["table"], {"feed"}, 4, 2))
+        self.assertEqual(log.refused, {"error/refuse_if_never": "proofs/LawsAnswer.antt:21:5", "table/s6_no_count": "", "table/s7": "src/main.rt:8:5"})
+        self.assertEqual((log.ran, log.sums), (["table"], {"feed"}))
 
     def test_an_edit_that_was_not_refused_is_not_there(self):
-        log = GateLog(LOG.replace("s6_no_count: refused, as it must be (9 s)", "s6_no_count: NOT REFUSED: the crate is still proved with this edit (9 s)"))
-        self.assertNotIn("table/s6_no_count", log.refused)
+        for word in ("NOT REFUSED: the crate is still proved with this edit", "BAD EDIT: an 'old:' text is in src/main.rt 0 times, and not once"):
+            self.assertNotIn("table/s6_no_count", GateLog(LOG.replace("s6_no_count.edit: refused, as it must be", f"s6_no_count.edit: {word}")).refused)
+
+    def test_a_crate_that_an_earlier_run_proved_is_not_there(self):
+        kept = "rt: table is kept: an earlier run on this machine proved the same files over the same libraries"
+        self.assertNotIn("table", GateLog(LOG.replace("rt: table proved", kept)).functions)
 
     def test_a_log_without_a_head(self):
         with self.assertRaisesRegex(Wrong, "doesn't begin with a commit"):

@@ -38,6 +38,11 @@ class TestLinks(unittest.TestCase):
                     self.assertIn(heading, anchors(meant), f"{path.relative_to(ROOT)} links to {target}")
 
 
+class TestNotice(unittest.TestCase):
+    def test_the_crate_has_the_same(self):
+        self.assertEqual((ROOT / "rust/NOTICE").read_text(), (ROOT / "NOTICE").read_text())
+
+
 class TestExamples(unittest.TestCase):
     def row(self, name):
         """The last cell of a row of the worked examples."""

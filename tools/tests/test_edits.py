@@ -7,13 +7,12 @@ import paths
 from edit import CRATES, BadEdit, apply, edits_of, replacements
 from refusal import Ground, grounds, kind_of, verdict
 
-ROOM = "/room/crates/compact"
-RETURNS = f"{ROOM}/proofs/write_byte/Proof.antt:31:5: error: `returns-3`: computed as far as they go, the two types differ\n"
-ADDS = f"{ROOM}/proofs/read_form/Proof.antt:101:13: error: `add-sum`: `omega`: the goal does not follow from what it read\n"
-NO_NEED = f"{ROOM}/proofs/write_byte/Proof.antt:19:12: error: `cast-dst`: `tie.Need-cast-dst`: module `Tie` has no `Need-cast-dst` that can be named from here\n"
-FOLLOWS = f"{ROOM}/proofs/write_byte/Proof.antt:34:57: error: `write-byte-spec`: `cast-dst` was not admitted (it has holes), so this cannot be checked\n"
-UNPROVED = f"note: {ROOM}/src/little_endian.rt:8:1: `u16_of`: this is not met (`returns`)\n"
-LAW = f"{ROOM}/proofs/LawsRead.antt:8:3: error: `add-form`: expected type `a`\n"
+RETURNS = "./proofs/write_byte/Proof.antt:31:5: error: `returns-3`: computed as far as they go, the two types differ\n"
+ADDS = "./proofs/read_form/Proof.antt:101:13: error: `overflow_add-sum`: `omega`: the goal does not follow from what it read\n"
+NO_GOAL = "./proofs/write_byte/Proof.antt:19:12: error: `overflow_cast-dst`: `tie.Need-overflow_cast-dst`: module `Tie` has no `Need-overflow_cast-dst` that can be named from here\n"
+FOLLOWS = "./proofs/write_byte/Proof.antt:34:57: error: 1 declaration that depends on `returns-3`, which was rejected, was not checked: write_byte_spec\n"
+UNPROVED = "note: src/little_endian.rt:8:1: it is not proved that what the function ensures holds when it returns (`returns`); the facts known there allow values\n"
+LAW = "./proofs/LawsRead.antt:8:3: error: `add_form`: expected type `a`\n"
 END = "logic=not-proved\n"
 
 
@@ -22,15 +21,15 @@ class TestRefusal(unittest.TestCase):
         return verdict(status, said + END, "compact").word
 
     def test_kinds(self):
-        proof = "/x/proofs/f/Proof.antt"
+        proof = "./proofs/f/Answers.antt"
         for name, kind in (
-            ("returns", "contract"), ("returns-12", "contract"), ("loop-again", "contract"), ("loop-holds", "contract"), ("loop-less", "safety"),
-            ("add-i", "safety"), ("slice-write-out", "safety"), ("same-length-2", "safety"), ("put-u16-requires-2", "asked"), ("f-spec", "shape"),
-            ("+f-spec", "contract"),
+            ("returns", "contract"), ("returns-12", "contract"), ("loop-i-init", "contract"), ("loop-i-preserved", "contract"), ("loop-i-smaller", "safety"),
+            ("overflow_add-i", "safety"), ("slice_bounds-out-end", "safety"), ("same-length-2", "safety"), ("shape_of-body", "safety"),
+            ("put_u16-requires-2", "asked"), ("with_last-requires-then-b2-lt3", "asked"), ("f_spec", "shape"), ("+f_spec", "contract"),
         ):
             self.assertEqual(kind_of(proof, name, "differs"), kind, name)
-        self.assertEqual(kind_of("/x/proofs/LawsF.antt", "add-i", "differs"), "law")
-        self.assertEqual(kind_of("/x/specs/F.antt", "f", "differs"), "law")
+        self.assertEqual(kind_of("./proofs/LawsF.antt", "add_i", "differs"), "law")
+        self.assertEqual(kind_of("./specs/F.antt", "f", "differs"), "law")
 
     def test_grounds(self):
         self.assertEqual(grounds(RETURNS + FOLLOWS, "compact"), [Ground("contract", "returns-3", "proofs/write_byte/Proof.antt:31")])
@@ -41,7 +40,7 @@ class TestRefusal(unittest.TestCase):
         self.assertEqual(self.word(ADDS + RETURNS), "refused")
         self.assertEqual(self.word(LAW), "refused")
         self.assertEqual(self.word(ADDS), "SAFETY ALONE")
-        self.assertEqual(self.word(RETURNS + NO_NEED), "SHAPE")
+        self.assertEqual(self.word(RETURNS + NO_GOAL), "SHAPE")
         self.assertEqual(self.word(FOLLOWS), "NO GROUND")
         self.assertEqual(self.word("", 0), "PASSES")
         self.assertEqual(verdict(1, "error: expected `;`\n", "compact").word, "NOT CHECKED")
