@@ -837,7 +837,7 @@ static inline uint32_t ouriscado_drop(
    blocks, in use or freed, share a byte; and the counts are true, no desk holds more than its ceiling and no
    reserve is above it, and the pages to be had cover what desks lack of their reserves. work is for the
    call's own use: a byte for each 128 bytes of the body, which may hold anything, and are 0 afterwards; what
-   stands behind them stays. Nothing else is written. Hands out ground: 0 for a good start, else why it isn't
+   stands behind them stays. Nothing else is written. Hands out fault: 0 for a good start, else why it isn't
    one; and which: the key where the first fault was met, the class of the free list, or the desk, since keys
    are judged first, from 0 on, then free lists, from class 0 on, and then counts; 0 for a good start, and
    where the fault has none of these. Hands out lost beside a good start: how many units of 16 bytes, from
@@ -851,7 +851,7 @@ static inline uint32_t ouriscado_drop(
    fault. Refuses 1, 34, 39.
 
    Call it once, before the first other call, on a book that you didn't make with ouriscado_book_fresh in this
-   process. A result of 0 says that the book was judged: it is good only where ground is OURISCADO_START_GOOD
+   process. A result of 0 says that the book was judged: it is good only where fault is OURISCADO_START_GOOD
    too. The work list needs body_len / OURISCADO_WORK_UNIT bytes, which are 8 MiB for a body of 2^30 bytes, 8
    GiB for one of 2^40 and 16 GiB for the largest of 2^41; a longer one is taken as well, a shorter one is
    refused with 34. The time it takes is that of reading the body once or twice, and more where free lists
@@ -860,7 +860,7 @@ static inline uint32_t ouriscado_drop(
 
    Of a last page whose total is 0 the total is unknown, which is sound: the node's own files have such pages.
 
-   What an operator does where ground isn't 0: nothing is to be written to this book, by any call. Restore
+   What an operator does where fault isn't 0: nothing is to be written to this book, by any call. Restore
    body, heads and state together, as of one moment, and check again. Where the fault is in the original,
    OURISCADO_START_KEY_UNSOUND names the first account whose list can't be read. Accounts behind it were not
    judged: there may be more such, and of those that read two may claim the same bytes. What is read of them,
@@ -882,26 +882,26 @@ static inline uint32_t ouriscado_drop(
 uint32_t ouriscado_book_check(
     const uint8_t *body, size_t body_len, const uint64_t *heads, size_t heads_len, uint64_t mark,
     const uint64_t free[OURISCADO_FREE_HEADS], const uint64_t counts[OURISCADO_COUNT_WORDS],
-    const uint8_t *desks, size_t desks_len, uint8_t *work, size_t work_len, uint32_t *ground,
-    uint64_t *which, uint64_t *lost);
+    const uint8_t *desks, size_t desks_len, uint8_t *work, size_t work_len, uint32_t *fault, uint64_t *which,
+    uint64_t *lost);
 static inline uint32_t ouriscado_desks_check(
     const uint8_t *body, size_t body_len, const uint64_t *heads, size_t heads_len,
     const struct ouriscado_state *state, const uint8_t *desks, size_t desks_len, uint8_t *work,
-    size_t work_len, uint32_t *ground, uint64_t *which, uint64_t *lost)
+    size_t work_len, uint32_t *fault, uint64_t *which, uint64_t *lost)
 {
     return ouriscado_book_check(
         body, body_len, heads, heads_len, state->mark, state->free, state->counts, desks, desks_len, work,
-        work_len, ground, which, lost);
+        work_len, fault, which, lost);
 }
 
 /* Tells whether body, heads and state are a good start of a book without desks. */
 static inline uint32_t ouriscado_check(
     const uint8_t *body, size_t body_len, const uint64_t *heads, size_t heads_len,
-    const struct ouriscado_state *state, uint8_t *work, size_t work_len, uint32_t *ground, uint64_t *which,
+    const struct ouriscado_state *state, uint8_t *work, size_t work_len, uint32_t *fault, uint64_t *which,
     uint64_t *lost)
 {
     return ouriscado_desks_check(body, body_len, heads, heads_len, state, ouriscado_no_desks(),
-                                 ouriscado_no_desks_len(heads_len), work, work_len, ground, which, lost);
+                                 ouriscado_no_desks_len(heads_len), work, work_len, fault, which, lost);
 }
 
 #ifdef __cplusplus

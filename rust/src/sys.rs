@@ -128,7 +128,7 @@ pub mod raw {
         /// names only offsets where such a block can stand; no two blocks, in use or freed, share a byte; and the counts are true, no desk
         /// holds more than its ceiling and no reserve is above it, and the pages to be had cover what desks lack of their reserves. work is
         /// for the call's own use: a byte for each 128 bytes of the body, which may hold anything, and are 0 afterwards; what stands behind
-        /// them stays. Nothing else is written. Hands out ground: 0 for a good start, else why it isn't one; and which: the key where the
+        /// them stays. Nothing else is written. Hands out fault: 0 for a good start, else why it isn't one; and which: the key where the
         /// first fault was met, the class of the free list, or the desk, since keys are judged first, from 0 on, then free lists, from
         /// class 0 on, and then counts; 0 for a good start, and where the fault has none of these. Hands out lost beside a good start: how
         /// many units of 16 bytes, from byte 4,096 up to the mark, belong to no key and to no list of freed blocks; 0 where it isn't a good
@@ -150,7 +150,7 @@ pub mod raw {
             desks_len: usize,
             work: *mut u8,
             work_len: usize,
-            ground: &mut u32,
+            fault: &mut u32,
             which: &mut u64,
             lost: &mut u64,
         ) -> u32;
@@ -710,7 +710,7 @@ pub fn book_drop(
 /// offsets where such a block can stand; no two blocks, in use or freed, share a byte; and the counts are true, no desk holds more than its
 /// ceiling and no reserve is above it, and the pages to be had cover what desks lack of their reserves. work is for the call's own use: a
 /// byte for each 128 bytes of the body, which may hold anything, and are 0 afterwards; what stands behind them stays. Nothing else is
-/// written. Hands out ground: 0 for a good start, else why it isn't one; and which: the key where the first fault was met, the class of the
+/// written. Hands out fault: 0 for a good start, else why it isn't one; and which: the key where the first fault was met, the class of the
 /// free list, or the desk, since keys are judged first, from 0 on, then free lists, from class 0 on, and then counts; 0 for a good start,
 /// and where the fault has none of these. Hands out lost beside a good start: how many units of 16 bytes, from byte 4,096 up to the mark,
 /// belong to no key and to no list of freed blocks; 0 where it isn't a good start. It is 0 in a book that began with ouriscado_book_fresh,
@@ -729,7 +729,7 @@ pub fn book_check(
     counts: &[u64; 49],
     desks: &[u8],
     work: &mut [u8],
-    ground: &mut u32,
+    fault: &mut u32,
     which: &mut u64,
     lost: &mut u64,
 ) -> u32 {
@@ -746,7 +746,7 @@ pub fn book_check(
             desks.len(),
             work.as_mut_ptr(),
             work.len(),
-            ground,
+            fault,
             which,
             lost,
         )

@@ -318,7 +318,7 @@ pub extern "C" fn ouriscado_book_drop(
 // offsets where such a block can stand; no two blocks, in use or freed, share a byte; and the counts are true, no desk holds more than
 // its ceiling and no reserve is above it, and the pages to be had cover what desks lack of their reserves. work is for the call's own
 // use: a byte for each 128 bytes of the body, which may hold anything, and are 0 afterwards; what stands behind them stays. Nothing else
-// is written. Hands out ground: 0 for a good start, else why it isn't one; and which: the key where the first fault was met, the class of
+// is written. Hands out fault: 0 for a good start, else why it isn't one; and which: the key where the first fault was met, the class of
 // the free list, or the desk, since keys are judged first, from 0 on, then free lists, from class 0 on, and then counts; 0 for a good
 // start, and where the fault has none of these. Hands out lost beside a good start: how many units of 16 bytes, from byte 4,096 up to the
 // mark, belong to no key and to no list of freed blocks; 0 where it isn't a good start. It is 0 in a book that began with
@@ -336,7 +336,7 @@ pub extern "C" fn ouriscado_book_check(
     counts: &[u64; 49],
     desks: &[u8],
     work: &mut [u8],
-    ground: &mut u32,
+    fault: &mut u32,
     which: &mut u64,
     lost: &mut u64,
 ) -> u32
@@ -347,7 +347,7 @@ pub extern "C" fn ouriscado_book_check(
         ≡ work_after (length_of_list body.now / 128) work.old (judges desks.now
         (book_of body.now heads.now mark free.now counts.now)
         (length_of_list work.old)) }
-    ensures ground { body_ground.new ≡ value_or ground_of (judges desks.now
+    ensures fault { fault.new ≡ value_or ground_of (judges desks.now
         (book_of body.now heads.now mark free.now counts.now)
         (length_of_list work.old)) 0 }
     ensures which { which.new ≡ value_or which_of (judges desks.now
@@ -359,7 +359,7 @@ pub extern "C" fn ouriscado_book_check(
     ensures kept { result ≢ 0 → work.new ≡ work.old }
 {
     let answer = book_start::judge_start(body, heads, mark, *free, counts, desks, work);
-    *ground = answer.ground();
+    *fault = answer.ground();
     *which = answer.which();
     *lost = answer.lost();
     answer.refusal()

@@ -38,7 +38,7 @@ returns c =
       (
         e.1,
         (
-          c.before.before.before.body_ground.ensures ∙ value_same ground_of _ e.0,
+          c.before.before.before.ground.ensures ∙ value_same ground_of _ e.0,
           (
             c.before.before.which.ensures ∙ value_same which_of _ e.0,
             (
