@@ -1,4 +1,6 @@
 // What a book's calls write into blocks: slabs, last pages, runs of pages.
+#![tactic(auto)]
+
 mod page;
 mod run;
 mod slab;

@@ -1,4 +1,6 @@
 // Desks that share a body: the list that names them, the counts of their pages, and what a take is judged by.
+#![tactic(auto)]
+
 mod counts;
 mod lists;
 

@@ -1,4 +1,6 @@
 // The keys of an account book over bytes: whether a key is sound, how long its list is, and the list itself.
+#![tactic(auto)]
+
 mod chain;
 mod key;
 mod lengths;

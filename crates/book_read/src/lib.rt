@@ -1,5 +1,7 @@
 // Reading a key's list, and telling how long it is (FORMAT, Read, Length). Nothing is allocated, and a refused read leaves the lent list
 // as it was.
+#![tactic(auto)]
+
 mod answers;
 mod lengths;
 mod reading;

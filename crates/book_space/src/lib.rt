@@ -1,4 +1,6 @@
 // The space of an account book over one lent body: its shape, and blocks taken and given back.
+#![tactic(auto)]
+
 mod desks;
 mod release;
 mod shape;

@@ -1,4 +1,6 @@
 // What lent buffers hold: parts of them, writes into them, and numbers in their bytes.
+#![tactic(auto)]
+
 mod fields; // fields.rt: numbers at an offset of a buffer
 mod little_endian; // little_endian.rt: numbers to and from their bytes, lowest first
 

@@ -1,4 +1,6 @@
 // Unsigned LEB128, the part of the source's compact.rs that the posting lists use.
+#![tactic(auto)]
+
 ghost use Rattle.std.specs.Prelude.{not, ◌&&◌, ltb, eqb, ◌≡◌, ◌≤◌, ◌<◌, length};
 ghost use Rattle.error.specs.Refusal.{answered, refusal_of, value_or};
 ghost use Rattle.buffer.specs.Bytes.{overwrite};

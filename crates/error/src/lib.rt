@@ -1,5 +1,6 @@
 // Refusals, in place of the source's StoreError: a call that is turned back answers one number, which
 // FORMAT, Refusals, lists. Of several that apply, a call answers the first of that list.
+#![tactic(auto)]
 
 // A refusal is its number.
 pub type Refusal = u32;

@@ -83,8 +83,8 @@ module _ (n : ℕ) (os : List ℕ) (x : ℕ) (xs : List ℕ) where
       (λ (q : is_in p xs ≡ true). let z = l.2 p q g in omega arith)
       (either (eqb x p) (is_in p xs) h) in
       ⊎_elim
-      (λ (h : x < o). let z : min x o ≡ x = omega arith in (rw z (or_left (eqb x x) (is_in x xs) (eq-eqb x x refl)), rw z f, lower))
-      (λ (h : o ≤ x). let z : min x o ≡ o = omega arith in (rw z (or_right (eqb x o) (is_in o xs) l.0), rw z l.1, lower))
+      (λ (h : x < o). let z : min x o ≡ x = omega arith in (subst (λ (y : ℕ). eqb x y || is_in y xs ≡ true) (sym z) (or_left (eqb x x) (is_in x xs) (eq-eqb x x refl)), rw z f, lower))
+      (λ (h : o ≤ x). let z : min x o ≡ o = omega arith in (subst (λ (y : ℕ). eqb x y || is_in y xs ≡ true) (sym z) (or_right (eqb x o) (is_in o xs) l.0), rw z l.1, lower))
       (lt_or_ge x o)
 
   chosen : (t : Bool) → stretch n x os ≡ t → (r : Option ℕ) → Least n os xs r → Least n os (x ∷ xs) (cond t (lesser x r) r)

@@ -1,4 +1,6 @@
 // Runs out of freed pages: the list of freed pages is judged and searched for the lowest stretch, whose pages are then taken out of it.
+#![tactic(auto)]
+
 mod flags;
 mod overlaid;
 mod search;

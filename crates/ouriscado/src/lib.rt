@@ -1,6 +1,8 @@
 // The C boundary: each function calls the one of its name without the prefix; those of the account book begin with ouriscado_book. A
 // result of type u32 is a number of FORMAT, Refusals, or 0. On a refusal every number that goes out is 0, and every buffer and list
 // holds what it held.
+#![tactic(auto)]
+
 mod account_book;
 mod account_core;
 mod account_extend;

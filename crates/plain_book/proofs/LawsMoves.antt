@@ -181,7 +181,7 @@ stays_spent d held list n kept t l i b =
 pub append_spent : (end held : ℕ) (list : List ℕ) (n : ℕ) (s : Space) {old : Place} {p : Placed} (t : Tally) → length list ≡ held + 1
     → ((class off : ℕ) (kept : Kept) → old ≡ slab class off kept → (longer n kept).numbers ≡ list) → Spent held old t
     → AppendDid end held list n s old p → Spent (length list) p.place (with_move p.rewritten t)
-append_spent end held list n s t l same (z, m, r) began = rw (counted_none t) (omega arith, m, r)
+append_spent end held list n s t l same h began = let (z, m, r) = h in rw (counted_none t) (omega arith, m, r)
 append_spent end held list n s t l same i (stayed d off kept q) = rw (counted_none t) (stays_spent d held list n kept t l i q)
 append_spent end held list n s t l same h (moved_slab old c x out q got) = rw l (to_slab held list n old t l same h out c q)
 append_spent end held list n s t l same h (moved_page old x out q got) = to_pages held list n old t h out

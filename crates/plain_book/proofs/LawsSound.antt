@@ -120,7 +120,8 @@ append_fits : (end count : ℕ) (ns : List ℕ) (n : ℕ) (s : Space) {old : Pla
     → AppendDid end count (ns ++ (n ∷ [])) n s old p → Fits (ns ++ (n ∷ [])) p.place
 unfolding Fits FitPages held written joins
 append_fits end count ns n s r l f began = omega (arith, length-append ns (n ∷ []))
-append_fits end count ns n s r l (same, each, c, two, few, bytes, low) (stayed class off kept q) =
+append_fits end count ns n s r l f (stayed class off kept q) =
+    let (same, each, c, two, few, bytes, low) = f in
     let (few', slots, fits) = stays_holds class (length (ns ++ (n ∷ []))) (longer n kept).bytes q in (
       longer_numbers n kept ∙ ap (λ (l : List ℕ). l ++ (n ∷ [])) same,
       longer_each n kept each,
@@ -136,10 +137,12 @@ append_fits end count ns n s r l f (moved_slab old c t out q got) =
 append_fits end count ns n s r l f (moved_page old t out q got) =
     let (two, few) = outgrown_two ns n old f out in
     (append-nil (ns ++ (n ∷ [])), ((omega arith, moved_small ns n r l few, omega arith, written_each (ns ++ (n ∷ []))), refl))
-append_fits end count ns n s r l (is_held_lem, fit) (joined_page ps q) =
+append_fits end count ns n s r l f (joined_page ps q) =
+    let (is_held_lem, fit) = f in
     let room = leb-true (longer n (last_page no_page ps).part).bytes (last_page no_page ps).room q in
     (join_held n ps fit ∙ ap (λ (l : List ℕ). l ++ (n ∷ [])) is_held_lem, join_fits n no_page ps fit room)
-append_fits end count ns n s r l (is_held_lem, fit) (begun_page ps t q got) =
+append_fits end count ns n s r l f (begun_page ps t q got) =
+    let (is_held_lem, fit) = f in
     let nine = len_below n 0 l in
     (begin_held n t.off ps ∙ ap (λ (l : List ℕ). l ++ (n ∷ [])) is_held_lem, begin_fits n t.off ps fit (omega arith))
 

@@ -2,7 +2,7 @@
 -- of the cutting as those of the greedy parts with the last one split. Assumes nothing.
 use Prim.Native.Nat.{ℕ, suc, ◌+◌, ◌-◌, ◌≤◌, ◌<◌}
 use mathlib.Core.List.{List, [], ◌∷◌, ◌++◌, append_assoc, append-nil}
-use mathlib.Core.Path.{◌≡◌, refl, sym, ap, ◌∙◌}
+use mathlib.Core.Path.{◌≡◌, refl, sym, ap, subst, ◌∙◌}
 use native.Mathlib.Nat.{zero-add}
 use native.Mathlib.Omega.{arith}
 use borrow.Author.Tests.{lt-ltb, le-ltb, le-leb, lt-leb}
@@ -119,8 +119,15 @@ split_from room front (p ∷ []) f =
     let high : s + length p ≤ length (front ++ (p ++ [])) = simp length-append (omega arith) in
     rw (lt-ltb s (s + length p) (omega (arith, f.0)), le-leb (s + length p) (length (front ++ (p ++ []))) high, numbers_at front p [])
 split_from room front (p ∷ q ∷ ps) f =
-    let ih = split_from room (front ++ p) (q ∷ ps) f.2 in
-    ap (λ (rs : List (List ℕ)). range_of (length front) (length front + length p) ∷ rs) (rw (append_assoc, length-append) at ih)
+    let whole : List ℕ = joined (q ∷ ps) in
+    let long : length (front ++ p) ≡ length front + length p = length-append front p in
+    let moved : split_ranges (front ++ (p ++ whole)) (ranges_from (length front + length p) (q ∷ ps))
+        ≡ ranges_from (length front + length p) (recut_last last_page_room (q ∷ ps)) =
+        subst (λ (l : List ℕ). split_ranges l (ranges_from (length front + length p) (q ∷ ps))
+        ≡ ranges_from (length front + length p) (recut_last last_page_room (q ∷ ps))) (append_assoc front p whole)
+        (subst (λ (n : ℕ). split_ranges ((front ++ p) ++ whole) (ranges_from n (q ∷ ps)) ≡ ranges_from n (recut_last last_page_room (q ∷ ps)))
+        long (split_from room (front ++ p) (q ∷ ps) f.2)) in
+    ap (λ (rs : List (List ℕ)). range_of (length front) (length front + length p) ∷ rs) moved
 
 -- the ranges of the cutting are those of the greedy parts for pages, with the last one split
 pub pages_split : (ns : List ℕ) → Words ns → ranges_from 0 (cutting ns) ≡ split_ranges ns (ranges_from 0 (greedy page_room ns))

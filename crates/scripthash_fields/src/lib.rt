@@ -1,4 +1,6 @@
 // The fields of a page's header: from the source's scripthash_pages.rs.
+#![tactic(auto)]
+
 mod accessors;
 mod answers;
 mod fields;

@@ -1,4 +1,6 @@
 // Forms of streams read quickly, one by one: summed up, and read into a list.
+#![tactic(auto)]
+
 mod forms;
 mod parts;
 

@@ -1,5 +1,7 @@
 // Free lists, the part of the source's scripthash.rs that is ported: freed blocks by class, each of which names the next in its
 // first 8 bytes. A lent body stands in for the file.
+#![tactic(auto)]
+
 ghost use Rattle.std.specs.Prelude.{◌≡◌, Bool, ◌+◌, ◌≤◌, ◌<◌, min, length};
 ghost use Rattle.error.specs.Refusal.{answered, refusal_of};
 ghost use Rattle.scripthash_layout.specs.Sizes.{max_slab_class, page_class};

@@ -1,5 +1,7 @@
 // The layout of posting lists, the parts of the source's scripthash_layout.rs that are ported: the head word of a key, and the sizes of
 // slabs and pages.
+#![tactic(auto)]
+
 mod head;
 mod sizes;
 

@@ -1,4 +1,6 @@
 // The numbers of a page: read, appended, and whole pages packed, from the source's scripthash_pages.rs.
+#![tactic(auto)]
+
 mod answers;
 mod appending;
 mod entries;

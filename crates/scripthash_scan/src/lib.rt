@@ -1,4 +1,6 @@
 // Streams of rising numbers scanned and read: the fast paths over forms and bytes, and the functions that take them.
+#![tactic(auto)]
+
 mod ends;
 mod fill;
 mod look;

@@ -1,4 +1,6 @@
 // Slabs and their classes: the rest of the source's scripthash_slabs.rs.
+#![tactic(auto)]
+
 mod class;
 mod payload;
 

@@ -1,4 +1,6 @@
 // Streams of rising numbers: the part of the source's scripthash_slabs.rs that slabs and pages share.
+#![tactic(auto)]
+
 mod encode;
 mod padded;
 mod stream;

@@ -22,7 +22,7 @@ module _ (t : tie.Else-not-is_gap) where
   whole = lists start.args.body.now start.args.heads.now
 
   passed : is_gap start.args.from start.args.to (length start.args.body.now) ≡ true
-  passed = sym t.before.is_gap.ensures ∙ not-false _ t.if-not-is_gap.left
+  passed = sym t.before.is_gap.ensures ∙ not-false _ t.if-not-is_gap.false-raw
 
 is_gap-requires : tie.Need-is_gap-requires
 is_gap-requires c κs = search rules
@@ -31,20 +31,20 @@ returns-then-not-is_gap : tie.Need-returns-then-not-is_gap
 returns-then-not-is_gap c =
     let a = c.before.before.before.args in
     let l = lists a.body.now a.heads.now in
-    let answer = carve_no a.from a.to l (sym c.before.is_gap.ensures ∙ not-true _ c.if-not-is_gap.taken) in
+    let answer = carve_no a.from a.to l (sym c.before.is_gap.ensures ∙ not-true _ c.if-not-is_gap.true-raw) in
     (sym (ap refusal_of answer), sym (after_refused _ l answer))
 
 push_largest-rest-requires : tie.Need-push_largest-rest-requires
 push_largest-rest-requires c κs =
     let t = c.before.before.before in
-    let g : Gap (start t).args.from (start t).args.to _ = gap_lies _ _ _ (passed t) c.before.before.if-from-to.taken in
+    let g : Gap (start t).args.from (start t).args.to _ = gap_lies _ _ _ (passed t) c.before.before.if-from-to.true in
     (omega arith, g.ends)
 
 push_smaller-requires : tie.Need-push_smaller-requires
 push_smaller-requires c κs =
     let t = c.before.before.before.before.before.before.before.before in
     let g : Gap (start t).args.from (start t).args.to _ =
-    gap_lies _ _ _ (passed t) c.before.before.before.before.before.before.before.if-from-to.taken in
+    gap_lies _ _ _ (passed t) c.before.before.before.before.before.before.before.if-from-to.true in
     let r = c.before.before.before.before.push_largest-rest.ensures.0 in
     (r.0, omega (arith, g.ends), r.1)
 

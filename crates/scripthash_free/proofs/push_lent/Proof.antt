@@ -17,7 +17,7 @@ put_free_head-requires : tie.Need-put_free_head-requires
 put_free_head-requires c κs =
     let t = c.before.before in
     let a = t.before.before.before.args in
-    let s : Standing a.class a.off _ = block_stands _ _ _ (sym t.before.is_Block.ensures ∙ t.if-is_block.true) in
+    let s : Standing a.class a.off _ = block_stands _ _ _ (sym t.before.is_block.ensures ∙ t.if-is_block.true) in
     (s.class_to_8, omega (arith, bytes_from_16 a.class))
 
 shape_of-body-then-is_block : tie.Need-shape_of-body-then-is_block
@@ -28,14 +28,14 @@ returns-then-is_block c =
     let t = c.before.before.before.before.before in
     let a = t.before.before.before.args in
     let l = lists a.body.now a.heads.now in
-    let answer = push_yes a.class a.off l (sym t.before.is_Block.ensures ∙ t.if-is_block.true) in
+    let answer = push_yes a.class a.off l (sym t.before.is_block.ensures ∙ t.if-is_block.true) in
     (sym (answered_yes was_done _ answer), c.before.before.put_free_head.ensures ∙ sym (after_accepted _ l answer))
 
 returns : tie.Need-returns
 returns c =
     let a = c.before.before.before.args in
     let l = lists a.body.now a.heads.now in
-    let answer = push_no a.class a.off l (sym c.before.is_Block.ensures ∙ c.if-is_block.false) in
+    let answer = push_no a.class a.off l (sym c.before.is_block.ensures ∙ c.if-is_block.false) in
     (sym (answered_no was_done _ answer), sym (after_refused _ l answer))
 
 pub push_lent_spec : {M : Type 1} → statement M

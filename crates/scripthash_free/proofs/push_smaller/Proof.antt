@@ -76,7 +76,7 @@ loop-class-preserved-then-size-to c =
       search rules,
       ap (push_all (gap_blocks (l.off + t.slab_bytes-size.result) to)) after
           ∙ ap (λ (s : ℕ). push_all (gap_blocks (l.off + s) to) (pushed (below t) l.off (lists l.body l.heads))) (size t)
-          ∙ sym first ∙ l.inv.4,
+          ∙ sym first ∙ l.invariant.4,
     )
 
 loop-class-smaller : tie.Need-loop-class-smaller invariant_loop decreases_loop
@@ -85,7 +85,7 @@ loop-class-smaller c = omega arith
 loop-class-preserved : tie.Need-loop-class-preserved invariant_loop decreases_loop
 loop-class-preserved c =
     let l = (loc c.before).loop-class in
-    (omega arith, l.inv.1, omega (arith, size c.before), l.inv.3, l.inv.4)
+    (omega arith, l.invariant.1, omega (arith, size c.before), l.invariant.3, l.invariant.4)
 
 shape_of-body : tie.Need-shape_of-body invariant_loop decreases_loop
 shape_of-body c = search rules

@@ -29,7 +29,7 @@ shape_of-body c = search rules
 returns : tie.Need-returns
 unfolding pushed
 returns c =
-    let a = c.before.before.before.before.before.before.args in
+    let a = c.before.before.before.before.before.before.before.args in
     ap (λ (b : List ℕ). lists b (set a.heads.now a.class a.off)) c.before.before.put_u64.ensures
 
 pub put_free_head_spec : {M : Type 1} → statement M

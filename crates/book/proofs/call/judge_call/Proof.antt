@@ -31,7 +31,7 @@ module _ (t : tie.After-list_bad) (words free : List ℕ)
   begun = t.before.before.before.before
 
   shape_good : shape_broken (asked begun words free e).space (length words) ≡ false
-  shape_good = shape begun words free e ∙ t.before.before.before.if-shape_broken.left
+  shape_good = shape begun words free e ∙ t.before.before.before.if-shape_broken.false
 
   listed : list_bad (ds begun words free e) (length words) ≡ t.list_bad.result
   listed = ap (list_bad (ds begun words free e)) e ∙ sym t.list_bad.ensures

@@ -19,12 +19,12 @@ enum_told-1 c = search rules
 
 returns-in-Word : tie.Need-returns-in-Word
 unfolding head_word
-returns-in-Word c = ap (λ (a : Answer ℕ). value_or (λ w. w) a 0) (sym (ap pack_answer c.before.packed-1.given.1)
-    ∙ c.before.before.before.pack8-packed.ensures)
+returns-in-Word c = ap (λ (a : Answer ℕ). value_or (λ w. w) a 0) (sym (ap pack_answer c.in-Word.is)
+    ∙ c.before.pack8-packed.ensures)
 
 returns-in-Refused : tie.Need-returns-in-Refused
 unfolding head_word
-returns-in-Refused c = ap (λ (a : Answer ℕ). value_or (λ w. w) a 0) (sym (ap pack_answer c.enum_told-1.given.1) ∙ c.before.before.pack8-packed.ensures)
+returns-in-Refused c = ap (λ (a : Answer ℕ). value_or (λ w. w) a 0) (sym (ap pack_answer c.in-Refused.is) ∙ c.before.pack8-packed.ensures)
 
 pub head_word_spec : {M : Type 1} → statement M
 head_word_spec = tie.close (tie.spec pack8-packed-requires enum_known-packed enum_told-1 returns-in-Word returns-in-Refused)

@@ -26,10 +26,10 @@ enum_told-1 : tie.Need-enum_told-1
 enum_told-1 c = search rules
 
 returns-in_default : tie.Need-returns-in_default
-returns-in_default c = absurd (refused≢accepted (sym (ap bytes_answer c.enum_told-1.given.1) ∙ judged c.before.before))
+returns-in_default c = absurd (refused≢accepted (sym (ap bytes_answer c.in_default.is) ∙ judged c.before))
 
 returns : tie.Need-returns
-returns c = accepted_inj (sym (ap bytes_answer c.before.judged-1.given.1) ∙ judged c.before.before.before)
+returns c = accepted_inj (sym (ap bytes_answer c.in-Bytes.is) ∙ judged c.before)
 
 pub compact_len_spec : {M : Type 1} → statement M
 compact_len_spec =

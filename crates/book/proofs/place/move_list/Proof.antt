@@ -60,18 +60,18 @@ module _ (t : tie.After-moves_to-class) where
 -- a slab of a class
 module _ (k : tie.In-Class) where
   abbrev choosing : tie.After-moves_to-class
-  choosing = k.before.before.before
+  choosing = k.before
 
-  to_slab : moves_to (length (list (start choosing))) (stream_len (list (start choosing))) ≡ some k.before.class-1.given.0.0
-  to_slab = chose choosing ∙ ap chosen k.before.class-1.given.1
+  to_slab : moves_to (length (list (start choosing))) (stream_len (list (start choosing))) ≡ some k.in-Class.class
+  to_slab = chose choosing ∙ ap chosen k.in-Class.is
 
 -- a page
 module _ (e : tie.In-Nothing) where
   abbrev choosing_page : tie.After-moves_to-class
-  choosing_page = e.before.before
+  choosing_page = e.before
 
   to_page : moves_to (length (list (start choosing_page))) (stream_len (list (start choosing_page))) ≡ none
-  to_page = chose choosing_page ∙ ap chosen e.enum_told-1.given.1
+  to_page = chose choosing_page ∙ ap chosen e.in-Nothing.is
 
 slice_bounds-list-count : tie.Need-slice_bounds-list-count
 slice_bounds-list-count c = search rules
@@ -95,7 +95,7 @@ enum_known-class c = search rules
 
 place_in_slab-requires : tie.Need-place_in_slab-requires
 place_in_slab-requires c κs =
-    let k = c.before.before.before.before in
+    let k = c.before.before.before in
     let p = pre (start (choosing k)) in
     let m = moves_to_lem (length (list (start (choosing k)))) (stream_len (list (start (choosing k)))) (to_slab k) in
     record { shape = p.shape; known = p.known; low = m.slab; few = m.few; rises = p.rises; fits = m.fits }
@@ -115,7 +115,7 @@ shape_of-body-in-Class c = search rules
 returns-in-Class : tie.Need-returns-in-Class
 returns-in-Class c =
     let p = c.before.before in
-    let k = p.before.before.before.before.before in
+    let k = p.before.before.before.before in
     places_as (same (start (choosing k)) (to_slab k)) p.place_in_slab.ensures
 
 shape_of-body-in-Nothing : tie.Need-shape_of-body-in-Nothing

@@ -33,23 +33,23 @@ module _ (t : tie.After-page_for-answer) where
   before = space start.args.body.now start.args.mark.now start.args.free.now
 
   abbrev after : Space
-  after = space t.page_for-answer.last.0 t.page_for-answer.last.1.0 t.page_for-answer.last.1.1.0
+  after = space t.page_for-answer.new.body t.page_for-answer.new.mark t.page_for-answer.new.free
 
   abbrev left : List ℕ
-  left = t.page_for-answer.last.1.1.1.0
+  left = t.page_for-answer.new.counts
 
 -- a block was taken
 module _ (k : tie.In-At) where
   abbrev taking : tie.After-page_for-answer
-  taking = k.before.before.before.before.before
+  taking = k.before.before.before
 
   abbrev taken : TakenFor
-  taken = record { off = k.before.answer-1.given.0.0; space = after taking; counts = left taking }
+  taken = record { off = k.in-At.off; space = after taking; counts = left taking }
 
   took : page_for (desk taking) (before taking) (counts taking) ≡ accepted taken
   took =
       took_at (before taking) (counts taking) (after taking) (left taking) _ taking.page_for-answer.ensures
-      (ap take_answer k.before.answer-1.given.1)
+      (ap take_answer k.in-At.is)
 
 page_for-answer-requires : tie.Need-page_for-answer-requires
 page_for-answer-requires c κs = search rules
@@ -68,8 +68,8 @@ shape_of-body-in_default c = search rules
 
 returns-in_default : tie.Need-returns-in_default
 returns-in_default c =
-    let t = c.before.before.before.before.before in
-    let is = refused_as _ _ (ap take_answer c.before.enum_told-1.given.1) c.refusal.ensures in
+    let t = c.before.before.before.before in
+    let is = refused_as _ _ (ap take_answer c.before.in_default.is) c.refusal.ensures in
     page_refused (desk t) (before t) (counts t) (list t) (after t) (left t)
     (took_none (before t) (counts t) (after t) (left t) (page_for (desk t) (before t) (counts t)) t.page_for-answer.ensures is)
 
@@ -80,7 +80,7 @@ put_last_page-requires : tie.Need-put_last_page-requires
 put_last_page-requires c κs =
     let k = c.before in
     let t = taking k in
-    let pre = (start t).pre in
+    let pre = (start t).requires in
     let page = page_for_lem (desk t) (before t) (counts t) (took k) in
     let lies = block_lies page_class (before t) (taken k) pre.shape (omega arith) page in
     record {
@@ -100,7 +100,7 @@ returns c =
     let put = c.before.before in
     let k = put.before.before in
     let t = taking k in
-    page_placed (desk t) (before t) (counts t) (list t) (after t) (left t) (took k) put.put_last_page.new.0
+    page_placed (desk t) (before t) (counts t) (list t) (after t) (left t) (took k) put.put_last_page.new.body
     put.put_last_page.ensures
 
 pub place_in_page_spec : {M : Type 1} → statement M

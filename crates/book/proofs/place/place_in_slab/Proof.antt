@@ -36,20 +36,20 @@ module _ (t : tie.After-slab_for-answer) where
   before = space start.args.body.now start.args.mark.now start.args.free.now
 
   abbrev after : Space
-  after = space t.slab_for-answer.last.0 t.slab_for-answer.last.1.0 t.slab_for-answer.last.1.1.0
+  after = space t.slab_for-answer.new.body t.slab_for-answer.new.mark t.slab_for-answer.new.free
 
 -- a block was taken
 module _ (k : tie.In-At) where
   abbrev taking : tie.After-slab_for-answer
-  taking = k.before.before.before.before.before
+  taking = k.before.before.before
 
   abbrev taken : TakenFor
-  taken = record { off = k.before.answer-1.given.0.0; space = after taking; counts = counts taking }
+  taken = record { off = k.in-At.off; space = after taking; counts = counts taking }
 
   took : slab_for (desk taking) (class taking) (before taking) (counts taking) ≡ accepted taken
   took =
       took_at (before taking) (counts taking) (after taking) (counts taking) _ taking.slab_for-answer.ensures
-      (ap take_answer k.before.answer-1.given.1)
+      (ap take_answer k.in-At.is)
 
 slab_for-answer-requires : tie.Need-slab_for-answer-requires
 slab_for-answer-requires c κs = search rules
@@ -68,8 +68,8 @@ shape_of-body-in_default c = search rules
 
 returns-in_default : tie.Need-returns-in_default
 returns-in_default c =
-    let t = c.before.before.before.before.before in
-    let is = refused_as _ _ (ap take_answer c.before.enum_told-1.given.1) c.refusal.ensures in
+    let t = c.before.before.before.before in
+    let is = refused_as _ _ (ap take_answer c.before.in_default.is) c.refusal.ensures in
     slab_refused (desk t) (before t) (counts t) (list t) (after t) (counts t) (class t)
     (took_none (before t) (counts t) (after t) (counts t) (slab_for (desk t) (class t) (before t) (counts t)) t.slab_for-answer.ensures is)
 
@@ -80,7 +80,7 @@ put_slab-requires : tie.Need-put_slab-requires
 put_slab-requires c κs =
     let k = c.before.before in
     let t = taking k in
-    let pre = (start t).pre in
+    let pre = (start t).requires in
     let size = c.before.slab_bytes-size.ensures ∙ bytes_fit (class t) (omega (arith, pre.low)) in
     let lies = block_lies (class t) (before t) (taken k) pre.shape (omega (arith, pre.low))
     (slab_for_lem (desk t) (before t) (counts t) (class t) (took k)) in
@@ -102,7 +102,7 @@ returns c =
     let put = c.before.before in
     let k = put.before.before.before in
     let t = taking k in
-    slab_placed (desk t) (before t) (counts t) (list t) (after t) (counts t) (class t) (took k) put.put_slab.new.0
+    slab_placed (desk t) (before t) (counts t) (list t) (after t) (counts t) (class t) (took k) put.put_slab.new.body
     put.put_slab.ensures
 
 pub place_in_slab_spec : {M : Type 1} → statement M

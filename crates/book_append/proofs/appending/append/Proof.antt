@@ -18,7 +18,7 @@ module _ (s : tie.Start) where
 -- the shape is kept
 module _ (c : tie.Else-shape_broken) where
   abbrev start : tie.Start
-  start = c.before.before.before.before.before.before
+  start = c.before.before.before.before.before
 
   -- the definition's test says so too
   shape : shape_broken (b start).space (length (b start).heads) ≡ false
@@ -33,7 +33,7 @@ shape_of-body-then-shape_broken c = search rules
 returns-then-shape_broken : tie.Need-returns-then-shape_broken
 returns-then-shape_broken c =
     let t = c.before in
-    let s = t.before.before.before.before.before in
+    let s = t.before.before.before.before in
     let a = s.args in
     let d = does_none (b s)
     (append_shape a.desk (b s) a.key a.n (sym (t.shape_broken.ensures a.free.now) ∙ c.if-shape_broken.true)) in

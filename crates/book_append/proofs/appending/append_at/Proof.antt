@@ -32,11 +32,11 @@ enum_known-place c = search rules
 
 append_inline-requires : tie.Need-append_inline-requires
 append_inline-requires c κs =
-    let p = c.before.before.before.before.before.before in
-    let s = p.before.before.before.before in
+    let p = c.before.before.before.before.before in
+    let s = p.before.before.before in
     record {
       to_append = s.requires.to_append;
-      some = inline_above (word_of s.args.key (b s)) _ _ (s.requires.stands ∙ ap accepted p.place-1.given.1);
+      some = inline_above (word_of s.args.key (b s)) _ _ (s.requires.stands ∙ ap accepted p.in-Inline.is);
     }
 
 enum_known-place-in-Slab-1 : tie.Need-enum_known-place-in-Slab-1
@@ -57,8 +57,8 @@ shape_of-heads-in-Empty c = search rules
 returns-in-Empty : tie.Need-returns-in-Empty
 returns-in-Empty c =
     let t = c.before.before.before.before in
-    let s = t.before.before.before.before in
-    does_as (placed s t.enum_told-1.given.1 ∙ at_empty s.args.desk (b s) s.args.key s.args.n)
+    let s = t.before.before.before in
+    does_as (placed s t.in-Empty.is ∙ at_empty s.args.desk (b s) s.args.key s.args.n)
     (c.before.before.accept_append.ensures (b s) (b s).space (b s).counts refl)
 
 shape_of-body-in-Inline : tie.Need-shape_of-body-in-Inline
@@ -70,8 +70,8 @@ shape_of-heads-in-Inline c = search rules
 returns-in-Inline : tie.Need-returns-in-Inline
 returns-in-Inline c =
     let f = c.before.before.before.before in
-    let p = f.before.before.before.before.before.before.before in
-    does_as (placed p.before.before.before.before p.place-1.given.1) (f.append_inline.ensures _)
+    let p = f.before.before.before.before.before.before in
+    does_as (placed p.before.before.before p.in-Inline.is) (f.append_inline.ensures _)
 
 shape_of-body-in-Slab : tie.Need-shape_of-body-in-Slab
 shape_of-body-in-Slab c = search rules
@@ -82,8 +82,8 @@ shape_of-heads-in-Slab c = search rules
 returns-in-Slab : tie.Need-returns-in-Slab
 returns-in-Slab c =
     let f = c.before.before.before.before in
-    let p = f.before.before.before.before.before.before.before in
-    does_as (placed p.before.before.before.before p.place-in-Slab-1.given.1) f.append_slab.ensures
+    let p = f.before.before.before.before.before.before in
+    does_as (placed p.before.before.before p.in-Slab.is) f.append_slab.ensures
 
 shape_of-body-in-Extent : tie.Need-shape_of-body-in-Extent
 shape_of-body-in-Extent c = search rules
@@ -94,8 +94,8 @@ shape_of-heads-in-Extent c = search rules
 returns-in-Extent : tie.Need-returns-in-Extent
 returns-in-Extent c =
     let f = c.before.before.before.before in
-    let p = f.before.before.before.before.before.before.before in
-    does_as (placed p.before.before.before.before p.place-in-Extent-1.given.1) f.append_page.ensures
+    let p = f.before.before.before.before.before.before in
+    does_as (placed p.before.before.before p.in-Extent.is) f.append_page.ensures
 
 pub append_at_spec : {M : Type 1} → statement M
 append_at_spec =

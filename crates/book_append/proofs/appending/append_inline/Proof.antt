@@ -29,10 +29,10 @@ module _ (p : tie.After-move_list-answer) where
   list = start.args.entry ∷ start.args.n ∷ []
 
   abbrev after : Space
-  after = space p.move_list-answer.last.0 p.move_list-answer.last.1.0 p.move_list-answer.last.1.1.0
+  after = space p.move_list-answer.new.body p.move_list-answer.new.mark p.move_list-answer.new.free
 
   abbrev left : List ℕ
-  left = p.move_list-answer.last.1.1.1.0
+  left = p.move_list-answer.new.counts
 
 returns-then-n-entry : tie.Need-returns-then-n-entry
 returns-then-n-entry c used =
@@ -75,12 +75,12 @@ shape_of-heads c = search rules
 returns-in-At : tie.Need-returns-in-At
 returns-in-At c used =
     let k = c.before.before.before.before in
-    let p = k.before.before.before.before.before in
+    let p = k.before.before.before in
     let s = start p in
     let a = s.args in
     let here = placed_at (b s).space (b s).counts (after p) (left p) (places_for a.desk (b s).space (b s).counts (list p))
     p.move_list-answer.ensures
-    (ap place_answer k.before.answer-1.given.1) in
+    (ap place_answer k.in-At.is) in
     does_as
     (inline_yes a.desk (b s) a.key a.n a.entry used
     (omega (arith, p.before.before.before.before.before.before.if-n-entry.false)) here)
@@ -91,12 +91,12 @@ shape_of-body-in-Refused c = search rules
 
 returns-in-Refused : tie.Need-returns-in-Refused
 returns-in-Refused c used =
-    let p = c.before.before.before.before.before in
+    let p = c.before.before.before in
     let s = start p in
     let a = s.args in
     let none = placed_none (b s).space (b s).counts (after p) (left p) (places_for a.desk (b s).space (b s).counts (list p))
     p.move_list-answer.ensures
-    (ap place_answer c.before.answer-in-Refused-1.given.1) in
+    (ap place_answer c.in-Refused.is) in
     does_still (b s)
     (inline_no a.desk (b s) a.key a.n a.entry used
     (omega (arith, p.before.before.before.before.before.before.if-n-entry.false)) none.0)

@@ -32,9 +32,9 @@ module _ (c : tie.Else-refusal-ne0) where
   -- so an append where the key stands may begin
   known : ToAppend from.args.desk (b from) from.args.key from.args.n
   known = record {
-    shape = (shape_holds (b from).space (length (b from).heads) from.pre.shape).0;
-    known = from.pre.known;
-    keyed = from.pre.keyed;
+    shape = (shape_holds (b from).space (length (b from).heads) from.requires.shape).0;
+    known = from.requires.known;
+    keyed = from.requires.keyed;
     above = fine.0;
     low =
         fine.1;
@@ -69,20 +69,20 @@ enum_told-1 c = search rules
 
 returns-in_default : tie.Need-returns-in_default
 returns-in_default c =
-    let u = c.before.before in
+    let u = c.before in
     let e = u.before.before in
     let s = from e in
     let a = s.args in
-    let p = s.pre in
-    let is = sym u.unpack8-head.ensures ∙ ap unpack_answer c.enum_told-1.given.1 in
+    let p = s.requires in
+    let is = sym u.unpack8-head.ensures ∙ ap unpack_answer c.in_default.is in
     does_none (b s)
     (append_unsound a.desk (b s) a.key a.n p.shape p.known p.keyed (fine e).0 (fine e).1 is)
 
 append_at-requires : tie.Need-append_at-requires
 append_at-requires c κs =
-    let h = c.before.before.before.before.before.before in
-    let u = h.before.before in
-    record { to_append = known u.before.before; stands = sym u.unpack8-head.ensures ∙ ap unpack_answer h.head-1.given.1 }
+    let h = c.before.before.before.before.before in
+    let u = h.before in
+    record { to_append = known u.before.before; stands = sym u.unpack8-head.ensures ∙ ap unpack_answer h.in-Head.is }
 
 shape_of-body : tie.Need-shape_of-body
 shape_of-body c = search rules
@@ -93,13 +93,13 @@ shape_of-heads c = search rules
 returns : tie.Need-returns
 returns c =
     let f = c.before.before.before.before in
-    let h = f.before.before.before.before.before.before.before in
-    let u = h.before.before in
+    let h = f.before.before.before.before.before.before in
+    let u = h.before in
     let e = u.before.before in
     let s = from e in
     let a = s.args in
-    let p = s.pre in
-    let is = sym u.unpack8-head.ensures ∙ ap unpack_answer h.head-1.given.1 in
+    let p = s.requires in
+    let is = sym u.unpack8-head.ensures ∙ ap unpack_answer h.in-Head.is in
     does_as (append_at_lem a.desk (b s) a.key a.n p.shape p.known p.keyed (fine e).0 (fine e).1 is)
     f.append_at.ensures
 

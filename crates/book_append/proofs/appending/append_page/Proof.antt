@@ -24,29 +24,29 @@ module _ (s : tie.Start) where
 -- the last page's end was told
 module _ (k : tie.In-Tail) where
   abbrev ended : tie.After-tail_end-end
-  ended = k.before.before.before
+  ended = k.before
 
   abbrev start : tie.Start
-  start = ended.before.before.before.before.before
+  start = ended.before.before.before.before
 
   abbrev taken : ℕ
-  taken = k.before.end-1.given.0.0
+  taken = k.in-Tail.taken
 
   abbrev fk : ℕ
-  fk = k.before.end-1.given.0.1.0
+  fk = k.in-Tail.fk
 
   abbrev first : ℕ
-  first = k.before.end-1.given.0.1.1.0
+  first = k.in-Tail.first
 
   abbrev creates : ℕ
-  creates = k.before.end-1.given.0.1.1.1.0
+  creates = k.in-Tail.creates
 
   -- the page is sound, and ends so
   told : TailTold (b start).space start.args.last taken fk first creates
   told =
       let a = start.args in
       tail_told a.body.now a.mark.now a.free.now a.last ended.tail_end-end.ensures
-      (ap tail_answer k.before.end-1.given.1)
+      (ap tail_answer k.in-Tail.is)
 
   -- what is known of it then
   sound : SoundTail (b start).space start.args.last told.tail
@@ -70,11 +70,11 @@ shape_of-body-in_default c = search rules
 
 returns-in_default : tie.Need-returns-in_default
 returns-in_default c =
-    let t = c.before.before in
-    let s = t.before.before.before.before.before in
+    let t = c.before in
+    let s = t.before.before.before.before in
     let a = s.args in
     let is = tail_untold a.body.now a.mark.now a.free.now a.last t.tail_end-end.ensures
-    (ap tail_answer c.enum_told-1.given.1) in
+    (ap tail_answer c.in_default.is) in
     does_none (b s) (page_unsound a.desk (b s) a.key a.n a.last is.1)
 
 shape_of-body-then-n-fk : tie.Need-shape_of-body-then-n-fk
@@ -150,8 +150,8 @@ returns c =
     does_as
     (page_stays a.desk (b (start k)) a.key a.n a.last (told k) (omega (arith, l.before.if-n-fk.false))
     (omega (arith, l.uleb128_len.ensures, g.before.before.if-taken-uleb128_len-gt-SH_PAGE_SIZE.false))
-    g.grow_page.new.0 g.grow_page.ensures)
-    (c.before.before.accept_append.ensures (b (start k)) (space g.grow_page.new.0 a.mark.now a.free.now)
+    g.grow_page.new.body g.grow_page.ensures)
+    (c.before.before.accept_append.ensures (b (start k)) (space g.grow_page.new.body a.mark.now a.free.now)
     a.counts.now refl)
 
 pub append_page_spec : {M : Type 1} → statement M

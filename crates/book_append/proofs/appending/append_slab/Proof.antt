@@ -29,23 +29,23 @@ module _ (s : tie.Start) where
 -- the slab's end was told
 module _ (k : tie.In-Scanned) where
   abbrev ended : tie.After-slab_end-end
-  ended = k.before.before.before
+  ended = k.before
 
   abbrev start : tie.Start
-  start = ended.before.before.before.before.before
+  start = ended.before.before.before.before
 
   abbrev taken : ℕ
-  taken = k.before.end-1.given.0.0
+  taken = k.in-Scanned.taken
 
   abbrev last : ℕ
-  last = k.before.end-1.given.0.1.0
+  last = k.in-Scanned.last
 
   -- the slab is sound, and ends so
   told : SlabTold (b start).space start.args.class start.args.used start.args.off taken last
   told =
       let a = start.args in
       slab_told a.body.now a.mark.now a.free.now a.class a.used a.off
-      ended.slab_end-end.ensures (ap scan_answer k.before.end-1.given.1)
+      ended.slab_end-end.ensures (ap scan_answer k.in-Scanned.is)
 
   -- what is known of it then
   sound : SoundSlab (seen (b start).space) start.args.class start.args.used start.args.off told.scan
@@ -72,7 +72,7 @@ module _ (t : tie.After-stays) where
 
   -- it is above the last
   above : last known < (start known).args.n
-  above = omega (arith, t.before.before.if-n-last.left)
+  above = omega (arith, t.before.before.if-n-last.false)
 
 -- it stays, and the slab's size was computed
 module _ (c : tie.After-slab_bytes-size) where
@@ -100,11 +100,11 @@ shape_of-body-in_default c = search rules
 
 returns-in_default : tie.Need-returns-in_default
 returns-in_default c =
-    let t = c.before.before in
-    let s = t.before.before.before.before.before in
+    let t = c.before in
+    let s = t.before.before.before.before in
     let a = s.args in
     let is = slab_untold a.body.now a.mark.now a.free.now a.class a.used a.off t.slab_end-end.ensures
-    (ap scan_answer c.enum_told-1.given.1) in
+    (ap scan_answer c.in_default.is) in
     does_none (b s) (slab_unsound a.desk (b s) a.key a.n a.class a.used a.off is.1)
 
 shape_of-body-then-n-last : tie.Need-shape_of-body-then-n-last
@@ -179,8 +179,8 @@ returns-then-stays c =
     does_as
     (slab_stays a.desk (b (from d)) a.key a.n a.class a.used a.off (told (known (staying d))) (above (staying d))
     (test (staying d) d.before.if-stays.true)
-    d.slab_bytes-size.result (size d) g.grow_slab.new.0 g.grow_slab.ensures)
-    (c.before.before.accept_append.ensures (b (from d)) (space g.grow_slab.new.0 a.mark.now a.free.now)
+    d.slab_bytes-size.result (size d) g.grow_slab.new.body g.grow_slab.ensures)
+    (c.before.before.accept_append.ensures (b (from d)) (space g.grow_slab.new.body a.mark.now a.free.now)
     a.counts.now refl)
 
 move_slab-requires : tie.Need-move_slab-requires
@@ -188,7 +188,7 @@ move_slab-requires c κs =
     let t = c.before.before.before.before.before.before in
     let s = start (known t) in
     let a = s.args in
-    slab_leaves a.desk (b s) a.key a.n a.class a.used a.off (told (known t)) (above t) s.pre
+    slab_leaves a.desk (b s) a.key a.n a.class a.used a.off (told (known t)) (above t) s.requires
     (test t c.before.before.before.before.before.if-stays.false)
 
 shape_of-body : tie.Need-shape_of-body

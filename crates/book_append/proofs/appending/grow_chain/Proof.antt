@@ -32,27 +32,27 @@ module _ (t : tie.After-page_for-answer) where
   b = book_of start.args.body.now start.args.heads.now start.args.mark.now start.args.free.now start.args.counts.now
 
   abbrev after : Space
-  after = space t.page_for-answer.last.0 t.page_for-answer.last.1.0 t.page_for-answer.last.1.1.0
+  after = space t.page_for-answer.new.body t.page_for-answer.new.mark t.page_for-answer.new.free
 
   abbrev left : List ℕ
-  left = t.page_for-answer.last.1.1.1.0
+  left = t.page_for-answer.new.counts
 
   -- the old last page is sound
-  sound : SoundTail b.space start.args.last start.pre.tail
-  sound = tail_sound b.space start.args.last start.pre.tail start.pre.sound
+  sound : SoundTail b.space start.args.last start.requires.tail
+  sound = tail_sound b.space start.args.last start.requires.tail start.requires.sound
 
   -- the old last page lies within the body
   last_inside : start.args.last + page_size ≤ length start.args.body.now
   last_inside =
-      page_inside (seen b.space) start.args.last sound.stands start.args.body.now start.pre.to_append.shape.within
+      page_inside (seen b.space) start.args.last sound.stands start.args.body.now start.requires.to_append.shape.within
 
 -- a page was taken
 module _ (k : tie.In-At) where
   abbrev taking : tie.After-page_for-answer
-  taking = k.before.before.before.before.before
+  taking = k.before.before.before
 
   abbrev off : ℕ
-  off = k.before.answer-1.given.0.0
+  off = k.in-At.off
 
   abbrev taken : TakenFor
   taken = record { off = off; space = after taking; counts = left taking }
@@ -61,7 +61,7 @@ module _ (k : tie.In-At) where
   took : page_for (start taking).args.desk (b taking).space (b taking).counts ≡ accepted taken
   took =
       took_at (b taking).space (b taking).counts (after taking) (left taking) _ taking.page_for-answer.ensures
-      (ap take_answer k.before.answer-1.given.1)
+      (ap take_answer k.in-At.is)
 
 page_for-answer-requires : tie.Need-page_for-answer-requires
 page_for-answer-requires c κs = search rules
@@ -80,9 +80,9 @@ shape_of-body-in_default c = search rules
 
 returns-in_default : tie.Need-returns-in_default
 returns-in_default c =
-    let t = c.before.before.before.before.before in
+    let t = c.before.before.before.before in
     let a = (start t).args in
-    let is = refused_as _ _ (ap take_answer c.before.enum_told-1.given.1) c.refusal.ensures in
+    let is = refused_as _ _ (ap take_answer c.before.in_default.is) c.refusal.ensures in
     let none = took_none (b t).space (b t).counts (after t) (left t) (page_for a.desk (b t).space (b t).counts)
     t.page_for-answer.ensures is in
     does_still (b t)
@@ -102,7 +102,7 @@ put_last_page-requires : tie.Need-put_last_page-requires
 put_last_page-requires c κs =
     let k = c.before.before.before.before.before.before.before in
     let t = taking k in
-    let pre = (start t).pre.to_append in
+    let pre = (start t).requires.to_append in
     let page = page_for_lem (start t).args.desk (b t).space (b t).counts (took k) in
     let lies = block_lies page_class (b t).space (taken k) pre.shape (omega arith) page in
     record {
@@ -132,13 +132,13 @@ returns c =
     let t = taking k in
     let a = (start t).args in
     does_as
-    (chain_yes a.desk (b t) a.key a.n a.last a.first a.creates (start t).pre linked.link_page.new.0
-    written.put_last_page.new.0 (took k)
+    (chain_yes a.desk (b t) a.key a.n a.last a.first a.creates (start t).requires linked.link_page.new.body
+    written.put_last_page.new.body (took k)
     linked.link_page.ensures
     (written.put_last_page.ensures
-    ∙ ap (λ (n : ℕ). overwrite linked.link_page.new.0 (off k) (last_page_of a.first (off k) 1 n (a.n ∷ [])))
+    ∙ ap (λ (n : ℕ). overwrite linked.link_page.new.body (off k) (last_page_of a.first (off k) 1 n (a.n ∷ [])))
     total.total_with-total.ensures))
-    (c.before.before.accept_append.ensures (b t) (space written.put_last_page.new.0 (after t).mark (after t).free)
+    (c.before.before.accept_append.ensures (b t) (space written.put_last_page.new.body (after t).mark (after t).free)
     (left t) refl)
 
 pub grow_chain_spec : {M : Type 1} → statement M

@@ -16,7 +16,7 @@ get_u16-count-requires : tie.Need-get_u16-count-requires
 get_u16-count-requires c κs = search rules
 
 overflow_add-count : tie.Need-overflow_add-count
-overflow_add-count c = let s = c.before.before.before.before in
+overflow_add-count c = let s = c.before.before.before in
     omega (arith, s.requires.grows.few, count_read s.args.page.now, c.before.get_u16-count.ensures)
 
 put_u16-requires : tie.Need-put_u16-requires
@@ -43,7 +43,7 @@ returns c =
     let formed = total.before.before.before.before in
     let counted = formed.before.before.before.before in
     let got = counted.before.before in
-    let s = got.before.before.before in
+    let s = got.before.before in
     let a = s.args in
     c.before.before.put_u32.ensures
     ∙ ap₂ (λ (b : List ℕ) (t : ℕ). overwrite b 20 (bytes_of 4 t))

@@ -29,7 +29,7 @@ returns : tie.Need-returns
 returns c =
     let s = c.before.before.before.before.before.before in
     let a = s.args in
-    block_back a.body.now a.off 4096 c.before.before.make_last.new.0
+    block_back a.body.now a.off 4096 c.before.before.make_last.new.page
     (last_page_of a.first a.base a.extents a.creates a.fks.now)
     (length_last_page a.first a.base a.extents a.creates a.fks.now s.requires.last.numbers.fits)
     c.before.before.make_last.ensures

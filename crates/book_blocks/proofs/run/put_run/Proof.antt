@@ -49,13 +49,13 @@ module _ (c : tie.In-loop-k invariant_loop decreases_loop) where
       (drop c.before.loop-k.k (cutting fks))
   turn =
       let l = c.before.loop-k in
-      let few : 1 < length (drop l.k (cutting fks)) = simp length-drop (omega (arith, start.pre.parts)) in
+      let few : 1 < length (drop l.k (cutting fks)) = simp length-drop (omega (arith, start.requires.parts)) in
       rw (get_or-take start.args.count start.args.ranges.now l.k [] (omega arith)) at
       (run_turn fks (take start.args.count start.args.ranges.now) l.k l.from (drop l.k (cutting fks)) few l.invariant.left)
 
   -- its page lies in the body, and another behind it
   room : c.before.loop-k.off + 2 * page_size ≤ length c.before.loop-k.body
-  room = let inv = c.before.loop-k.invariant in omega (arith, start.pre.inside, inv.long, inv.page)
+  room = let inv = c.before.loop-k.invariant in omega (arith, start.requires.inside, inv.long, inv.page)
 
 -- behind the loop
 module _ (c : tie.After-loop-k invariant_loop decreases_loop) where
@@ -69,7 +69,7 @@ module _ (c : tie.After-loop-k invariant_loop decreases_loop) where
   ends =
       let l = c.before.loop-k in
       let one : length (drop l.k (cutting entry.args.fks.now)) ≡ 1 =
-      simp length-drop (omega (arith, entry.pre.parts, l.invariant.more)) in
+      simp length-drop (omega (arith, entry.requires.parts, l.invariant.more)) in
       run_end entry.args.fks.now (take entry.args.count entry.args.ranges.now) l.k l.from _ one l.invariant.left
 
   -- what is left is lent whole
@@ -78,7 +78,7 @@ module _ (c : tie.After-loop-k invariant_loop decreases_loop) where
 
   -- the last page lies in the body
   last_room : c.before.loop-k.off + page_size ≤ length c.before.loop-k.body
-  last_room = let inv = c.before.loop-k.invariant in omega (arith, entry.pre.inside, inv.more, inv.long, inv.page)
+  last_room = let inv = c.before.loop-k.invariant in omega (arith, entry.requires.inside, inv.more, inv.long, inv.page)
 
 loop-k-init : tie.Need-loop-k-init invariant_loop decreases_loop
 loop-k-init c =
@@ -161,7 +161,7 @@ loop-k-preserved c =
     }
 
 offset_bounds-fks-from-2 : tie.Need-offset_bounds-fks-from-2 invariant_loop decreases_loop
-offset_bounds-fks-from-2 c = omega (arith, (ends c.before).within, (entry c.before).pre.few)
+offset_bounds-fks-from-2 c = omega (arith, (ends c.before).within, (entry c.before).requires.few)
 
 slice_bounds-put_last_page-count : tie.Need-slice_bounds-put_last_page-count invariant_loop decreases_loop
 slice_bounds-put_last_page-count c = (ends c.before).within
@@ -173,10 +173,10 @@ slice_bounds-put_last_page-end : tie.Need-slice_bounds-put_last_page-end invaria
 slice_bounds-put_last_page-end c = search rules
 
 overflow_cast-count : tie.Need-overflow_cast-count invariant_loop decreases_loop
-overflow_cast-count c = let s = entry c.before.before in omega (arith, s.pre.inside, s.pre.small)
+overflow_cast-count c = let s = entry c.before.before in omega (arith, s.requires.inside, s.requires.small)
 
 overflow_cast-fks : tie.Need-overflow_cast-fks invariant_loop decreases_loop
-overflow_cast-fks c = omega (arith, (entry c.before.before).pre.few)
+overflow_cast-fks c = omega (arith, (entry c.before.before).requires.few)
 
 put_last_page-requires : tie.Need-put_last_page-requires invariant_loop decreases_loop
 put_last_page-requires c κs =

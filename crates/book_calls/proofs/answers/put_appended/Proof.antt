@@ -32,7 +32,7 @@ returns c =
     let three = c.before.before.before.before.before.before in
     let start = three.before.before.before in
     let args = start.args in
-    let mid = three.put_three.new.0 in
+    let mid = three.put_three.new.out in
     re_written (ap (λ (l : List ℕ). put_mid 3 (length mid - 3) mid l) c.before.before.put_place.ensures)
     (append_put args.out.now mid args.to.rewritten args.to.place start.requires three.put_three.ensures)
 

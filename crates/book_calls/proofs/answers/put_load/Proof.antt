@@ -23,7 +23,7 @@ shape_of-out-in-Loaded c = search rules
 
 returns-in-Loaded : tie.Need-returns-in-Loaded
 returns-in-Loaded c =
-    let told = c.before.before.before.before.before.answer-1.given.1 in
+    let told = c.before.before.before.before.in-Loaded.is in
     re_said (ap load_told told) (load_put _ _ _ c.before.before.put_three.ensures)
 
 shape_of-out-in-Refused : tie.Need-shape_of-out-in-Refused
@@ -31,7 +31,7 @@ shape_of-out-in-Refused c = search rules
 
 returns-in-Refused : tie.Need-returns-in-Refused
 returns-in-Refused c =
-    let told = c.before.before.before.before.before.answer-in-Refused-1.given.1 in
+    let told = c.before.before.before.before.in-Refused.is in
     re_said (ap load_told told) c.before.before.put_refusal.ensures
 
 pub put_load_spec : {M : Type 1} → statement M

@@ -52,28 +52,28 @@ shape_of-out-in-Empty c = search rules
 
 returns-in-Empty : tie.Need-returns-in-Empty
 unfolding spell_place
-returns-in-Empty c = as_told _ c.before.before.before.before.enum_told-1.given.1 c.before.before.put_four.ensures
+returns-in-Empty c = as_told _ c.before.before.before.before.in-Empty.is c.before.before.put_four.ensures
 
 shape_of-out-in-Inline : tie.Need-shape_of-out-in-Inline
 shape_of-out-in-Inline c = search rules
 
 returns-in-Inline : tie.Need-returns-in-Inline
 unfolding spell_place
-returns-in-Inline c = as_told _ c.before.before.before.before.before.place-1.given.1 c.before.before.put_four-in-Inline.ensures
+returns-in-Inline c = as_told _ c.before.before.before.before.in-Inline.is c.before.before.put_four-in-Inline.ensures
 
 shape_of-out-in-Slab : tie.Need-shape_of-out-in-Slab
 shape_of-out-in-Slab c = search rules
 
 returns-in-Slab : tie.Need-returns-in-Slab
 unfolding spell_place
-returns-in-Slab c = as_told _ c.before.before.before.before.before.place-in-Slab-1.given.1 c.before.before.put_four-in-Slab.ensures
+returns-in-Slab c = as_told _ c.before.before.before.before.in-Slab.is c.before.before.put_four-in-Slab.ensures
 
 shape_of-out-in-Extent : tie.Need-shape_of-out-in-Extent
 shape_of-out-in-Extent c = search rules
 
 returns-in-Extent : tie.Need-returns-in-Extent
 unfolding spell_place
-returns-in-Extent c = as_told _ c.before.before.before.before.before.place-in-Extent-1.given.1 c.before.before.put_four-in-Extent.ensures
+returns-in-Extent c = as_told _ c.before.before.before.before.in-Extent.is c.before.before.put_four-in-Extent.ensures
 
 pub put_place_spec : {M : Type 1} → statement M
 put_place_spec =

@@ -25,8 +25,8 @@ put_five-requires c κs = search rules
 
 overflow_add-result : tie.Need-overflow_add-result
 overflow_add-result c =
-    let told = c.before.before.before.before.before in
-    omega (arith, ap read_len told.answer-1.given.1, told.before.before.before.requires.1)
+    let told = c.before.before.before.before in
+    omega (arith, ap read_len told.in-Listed.is, told.before.before.requires.1)
 
 enum_known-answer-in-Refused-1 : tie.Need-enum_known-answer-in-Refused-1
 enum_known-answer-in-Refused-1 c = search rules
@@ -38,7 +38,7 @@ shape_of-out-in-Listed : tie.Need-shape_of-out-in-Listed
 shape_of-out-in-Listed c = search rules
 
 returns-in-Listed : tie.Need-returns-in-Listed
-returns-in-Listed c = as_told _ c.before.before.before.before.before.answer-1.given.1 c.before.before.put_five.ensures refl
+returns-in-Listed c = as_told _ c.before.before.before.before.in-Listed.is c.before.before.put_five.ensures refl
 
 shape_of-out-in-Refused : tie.Need-shape_of-out-in-Refused
 shape_of-out-in-Refused c = search rules
@@ -47,7 +47,7 @@ returns-in-Refused : tie.Need-returns-in-Refused
 unfolding spell_answer
 returns-in-Refused c =
     let put = c.before.before.put_refusal.ensures in
-    as_told _ c.before.before.before.before.before.answer-in-Refused-1.given.1 put.words put.count
+    as_told _ c.before.before.before.before.in-Refused.is put.words put.count
 
 pub put_read_spec : {M : Type 1} → statement M
 put_read_spec =

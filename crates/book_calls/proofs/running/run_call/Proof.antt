@@ -29,7 +29,7 @@ module _ (c : tie.Then-is_load) where
 
   -- its numbers end within the words
   load_end : at_load.args.at + 3 + get_or at_load.args.calls.now (at_load.args.at + 2) 0 ≤ length at_load.args.calls.now
-  load_end = (here_load at_load.pre is_one).0
+  load_end = (here_load at_load.requires is_one).0
 
 -- it is an append
 module _ (c : tie.Then-kind-eq-APPEND) where
@@ -138,7 +138,7 @@ returns-then-kind-eq-APPEND c =
     λ b e. re_done (here_is h b e ∙ here_append h appends.if-kind-eq-APPEND.true) done.run_append.ensures
 
 run_read-requires : tie.Need-run_read-requires
-run_read-requires c κs = let reads = c.before.before.before.before in here_read_room (at_read reads).requires reads.if-kind-eq-READ.true
+run_read-requires c κs = let reads = c.before.before in here_read_room (at_read reads).requires reads.if-kind-eq-READ.true
 
 shape_of-body-then-kind-eq-READ : tie.Need-shape_of-body-then-kind-eq-READ
 shape_of-body-then-kind-eq-READ c = search rules
@@ -152,7 +152,7 @@ shape_of-out-then-kind-eq-READ c = search rules
 returns-then-kind-eq-READ : tie.Need-returns-then-kind-eq-READ
 returns-then-kind-eq-READ c =
     let done = c.before.before in
-    let reads = done.before.before.before.before.before in
+    let reads = done.before.before.before in
     let h = (at_read reads).requires in
     λ b e. re_done (here_is h b e ∙ here_read h reads.if-kind-eq-READ.true) (read_done _ _ _ _ (done.run_read.ensures _ _))
 

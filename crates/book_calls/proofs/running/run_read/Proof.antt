@@ -29,10 +29,10 @@ module _ (c : tie.After-read-answer) (free counts : List ℕ) where
   out = start.args.out.now
 
   abbrev part : List ℕ
-  part = c.read-answer.new.1.1.1.1.0
+  part = c.read-answer.new.out
 
-  done : Put book key room out start.pre (reads book key room) c.read-answer.result part
-  done = put_reads book key room out start.pre c.read-answer.result part (c.read-answer.ensures.0 free counts) (c.read-answer.ensures.1 free counts)
+  done : Put book key room out start.requires (reads book key room) c.read-answer.result part
+  done = put_reads book key room out start.requires c.read-answer.result part (c.read-answer.ensures.0 free counts) (c.read-answer.ensures.1 free counts)
 
 overflow_add-end : tie.Need-overflow_add-end
 overflow_add-end c = search rules

@@ -31,7 +31,7 @@ decreases_loop body₀ heads₀ mark₀ free₀ counts₀ desks calls out₀ at�
 -- a call begins at the index
 module _ (k : tie.In-At invariant_loop decreases_loop) where
   abbrev loc : tie.At-loop-at invariant_loop decreases_loop
-  loc = k.before.before.before.before.before
+  loc = k.before.before.before
 
   abbrev start : tie.Start invariant_loop decreases_loop
   start = loc.before.before.before.before.before.before
@@ -51,10 +51,10 @@ module _ (k : tie.In-At invariant_loop decreases_loop) where
 
   -- words are left
   more : loc.loop-at.at < length words
-  more = k.before.before.before.before.loop-at-test.taken
+  more = k.before.before.loop-at-test.true
 
-  begun : NextIs words loc.loop-at.at (call_at (drop loc.loop-at.at words)) (At k.before.next-1.given.0.0)
-  begun = subst (NextIs _ _ _) k.before.next-1.given.1 k.before.before.before.next_call-next.ensures
+  begun : NextIs words loc.loop-at.at (call_at (drop loc.loop-at.at words)) (At k.in-At.behind)
+  begun = subst (NextIs _ _ _) k.in-At.is k.before.next_call-next.ensures
 
 -- it was run
 module _ (d : tie.After-run_call-to invariant_loop decreases_loop) where
@@ -63,10 +63,10 @@ module _ (d : tie.After-run_call-to invariant_loop decreases_loop) where
 
   stepped : (cs : List SpelledCall) → calls_of (words known) ≡ some cs
       → Running (start known).args.desks.now (first known) cs (words known) (start known).args.out.now
-      (book_of d.run_call-to.last.0 d.run_call-to.last.1.0 d.run_call-to.last.1.1.0 d.run_call-to.last.1.1.1.0
-      d.run_call-to.last.1.1.1.1.0)
-      (put_mid (to known) (length (out known) - to known) (out known) d.run_call-to.last.1.1.1.1.1.1.1.1.0)
-      known.before.next-1.given.0.0 (to known + d.run_call-to.result)
+      (book_of d.run_call-to.new.body d.run_call-to.new.heads d.run_call-to.new.mark d.run_call-to.new.free
+      d.run_call-to.new.counts)
+      (put_mid (to known) (length (out known) - to known) (out known) d.run_call-to.new.out)
+      known.in-At.behind (to known + d.run_call-to.result)
   stepped cs e =
       let r = (loc known).loop-at.invariant.5 cs e in
       let x = runs_split r (more known) _ (begun known) in
@@ -102,9 +102,9 @@ shape_of-out-in_default c = search rules
 
 returns-in_default : tie.Need-returns-in_default invariant_loop decreases_loop
 returns-in_default c =
-    let l = c.before.before.before.before in
-    let told = subst (NextIs _ _ _) c.enum_told-1.given.1 c.before.before.next_call-next.ensures in
-    λ cs e. absurd (runs_nowhere (l.loop-at.invariant.5 cs e) c.before.before.before.loop-at-test.true told)
+    let l = c.before.before.before in
+    let told = subst (NextIs _ _ _) c.in_default.is c.before.next_call-next.ensures in
+    λ cs e. absurd (runs_nowhere (l.loop-at.invariant.5 cs e) c.before.before.loop-at-test.true told)
 
 offset_bounds-out-to : tie.Need-offset_bounds-out-to invariant_loop decreases_loop
 offset_bounds-out-to c = search rules
@@ -127,7 +127,7 @@ run_call-to-requires c κs =
 overflow_add-to : tie.Need-overflow_add-to invariant_loop decreases_loop
 overflow_add-to c =
     let d = ran c in
-    let s = (start (known d)).pre in
+    let s = (start (known d)).requires in
     let r = stepped d s.list s.is in
     omega (arith, r.room, r.same, (start (known d)).good)
 
@@ -137,7 +137,7 @@ loop-at-smaller c = let (b, e, r, l, m) = was_somewhere _ _ _ _ (begun (known (r
 loop-at-preserved : tie.Need-loop-at-preserved invariant_loop decreases_loop
 loop-at-preserved c =
     let d = ran c in
-    let s = (start (known d)).pre in
+    let s = (start (known d)).requires in
     let r = stepped d s.list s.is in
     let (b, e, t, l, m) = was_somewhere _ _ _ _ (begun (known d)) in
     (search rules, search rules, r.same, m, omega (arith, r.room), λ cs e. stepped d cs e)

@@ -20,7 +20,7 @@ module _ (c : tie.Else-not-calls_spelled) where
   start = c.before.before.before.before.before.before.before
 
   spelled : is_some (calls_of start.args.calls.now) ≡ true
-  spelled = sym c.before.calls_spelled.ensures ∙ not-false c.before.calls_spelled.result c.if-not-calls_spelled.false
+  spelled = sym c.before.calls_spelled.ensures ∙ not-false c.before.calls_spelled.result c.if-not-calls_spelled.false-raw
 
 -- and their answers have room
 module _ (c : tie.Else-not-calls_fit) where
@@ -29,24 +29,24 @@ module _ (c : tie.Else-not-calls_fit) where
 
   fit : (cs : List SpelledCall) → calls_of (start told).args.calls.now ≡ some cs
       → leb (answers_room cs) (length (start told).args.answers.now) ≡ true
-  fit cs e = sym (c.before.calls_fit.ensures cs e) ∙ not-false c.before.calls_fit.result c.if-not-calls_fit.false
+  fit cs e = sym (c.before.calls_fit.ensures cs e) ∙ not-false c.before.calls_fit.result c.if-not-calls_fit.false-raw
 
 -- the book is to be made
 module _ (c : tie.After-fresh-made) where
   abbrev fitting : tie.Else-not-calls_fit
-  fitting = c.before.before.before.before.before.before.before.before
+  fitting = c.before.before.before.before.before.before.before
 
 -- it is made
 module _ (c : tie.In-Made) where
   abbrev made : tie.After-fresh-made
-  made = c.before.before.before.before
+  made = c.before.before.before
 
 calls_spelled-requires : tie.Need-calls_spelled-requires
 calls_spelled-requires c κs = search rules
 
 returns-then-not-calls_spelled : tie.Need-returns-then-not-calls_spelled
 returns-then-not-calls_spelled c =
-    unspelled _ _ _ _ (was_none _ (sym c.before.calls_spelled.ensures ∙ not-true c.before.calls_spelled.result c.if-not-calls_spelled.true))
+    unspelled _ _ _ _ (was_none _ (sym c.before.calls_spelled.ensures ∙ not-true c.before.calls_spelled.result c.if-not-calls_spelled.true-raw))
 
 calls_fit-requires : tie.Need-calls_fit-requires
 calls_fit-requires c κs = spelled c
@@ -54,7 +54,7 @@ calls_fit-requires c κs = spelled c
 returns-then-not-calls_fit : tie.Need-returns-then-not-calls_fit
 returns-then-not-calls_fit c =
     let (cs, e) = was_some _ (spelled c.before.before) in
-    too_short _ _ _ _ cs e (sym (c.before.calls_fit.ensures cs e) ∙ not-true c.before.calls_fit.result c.if-not-calls_fit.true)
+    too_short _ _ _ _ cs e (sym (c.before.calls_fit.ensures cs e) ∙ not-true c.before.calls_fit.result c.if-not-calls_fit.true-raw)
 
 fresh-made-requires : tie.Need-fresh-made-requires
 fresh-made-requires c κs = search rules
@@ -87,7 +87,7 @@ returns-in-Made c =
     let f = fitting (made known) in
     let (cs, e) = was_some _ (spelled (told f)) in
     let did = (made known).fresh-made.ensures in
-    all_ran _ _ _ _ _ _ cs _ _ _ e (fit f cs e) did.0 known.enum_told-1.given.1 did.1
+    all_ran _ _ _ _ _ _ cs _ _ _ e (fit f cs e) did.0 known.in-Made.is did.1
     (ran.run_spelled-len.ensures cs e)
 
 shape_of-body-in-Refused : tie.Need-shape_of-body-in-Refused
@@ -98,11 +98,11 @@ shape_of-heads-in-Refused c = search rules
 
 returns-in-Refused : tie.Need-returns-in-Refused
 returns-in-Refused c =
-    let making = c.before.before.before.before.before in
+    let making = c.before.before.before in
     let f = fitting making in
     let (cs, e) = was_some _ (spelled (told f)) in
     let did = making.fresh-made.ensures in
-    not_made _ _ _ _ _ cs _ _ e (fit f cs e) did.0 c.before.made-1.given.1 did.1
+    not_made _ _ _ _ _ cs _ _ e (fit f cs e) did.0 c.in-Refused.is did.1
 
 pub run_calls_spec : {M : Type 1} → statement M
 run_calls_spec =

@@ -24,17 +24,17 @@ decreases_loop calls room left₀ at₀ left at = length calls - at
 -- a call begins at the index
 module _ (k : tie.In-At invariant_loop decreases_loop) where
   abbrev loc : tie.At-loop-at invariant_loop decreases_loop
-  loc = k.before.before.before.before.before
+  loc = k.before.before.before
 
   abbrev words : List ℕ
   words = loc.before.before.args.calls.now
 
-  begun : NextIs words loc.loop-at.at (call_at (drop loc.loop-at.at words)) (At k.before.next-1.given.0.0)
-  begun = subst (NextIs _ _ _) k.before.next-1.given.1 k.before.before.before.next_call-next.ensures
+  begun : NextIs words loc.loop-at.at (call_at (drop loc.loop-at.at words)) (At k.in-At.behind)
+  begun = subst (NextIs _ _ _) k.in-At.is k.before.next_call-next.ensures
 
   -- words are left
   more : loc.loop-at.at < length words
-  more = k.before.before.before.before.loop-at-test.taken
+  more = k.before.before.loop-at-test.true
 
   inside : loc.loop-at.at + 3 ≤ length words
   inside = let (b, e, r, l, m) = was_somewhere _ _ _ _ begun in omega (arith, l, m)
@@ -42,7 +42,7 @@ module _ (k : tie.In-At invariant_loop decreases_loop) where
 -- and its answer has room
 module _ (c : tie.In-Words invariant_loop decreases_loop) where
   abbrev known : tie.In-At invariant_loop decreases_loop
-  known = c.before.before.before.before.before.before
+  known = c.before.before.before.before
 
 loop-at-init : tie.Need-loop-at-init invariant_loop decreases_loop
 loop-at-init c = (omega arith, λ cs e. fit_starts _ _ cs e)
@@ -58,9 +58,9 @@ enum_told-1 c = search rules
 
 returns-in_default : tie.Need-returns-in_default invariant_loop decreases_loop
 returns-in_default c =
-    let l = c.before.before.before.before in
-    let told = subst (NextIs _ _ _) c.enum_told-1.given.1 c.before.before.next_call-next.ensures in
-    λ cs e. absurd (fit_nowhere (l.loop-at.invariant.1 cs e) c.before.before.before.loop-at-test.true told)
+    let l = c.before.before.before in
+    let told = subst (NextIs _ _ _) c.in_default.is c.before.next_call-next.ensures in
+    λ cs e. absurd (fit_nowhere (l.loop-at.invariant.1 cs e) c.before.before.loop-at-test.true told)
 
 offset_bounds-calls-at : tie.Need-offset_bounds-calls-at invariant_loop decreases_loop
 offset_bounds-calls-at c = search rules
@@ -89,8 +89,8 @@ enum_told-in_default-answered c = search rules
 returns-in_default-answered : tie.Need-returns-in_default-answered invariant_loop decreases_loop
 unfolding RoomIs
 returns-in_default-answered c =
-    let k = c.before.before.before.before.before in
-    let little = subst (RoomIs _ _) c.enum_told-in_default-answered-1.given.1 c.before.before.room_behind-answered.ensures in
+    let k = c.before.before.before.before in
+    let little = subst (RoomIs _ _) c.in_default-answered.is c.before.room_behind-answered.ensures in
     λ cs e. fit_short ((loc k).loop-at.invariant.1 cs e) (more k) _ (begun k) little
 
 loop-at-smaller : tie.Need-loop-at-smaller invariant_loop decreases_loop
@@ -101,7 +101,7 @@ unfolding RoomIs
 loop-at-preserved c =
     let k = known c in
     let (b, e, r, l, m) = was_somewhere _ _ _ _ (begun k) in
-    let left = subst (RoomIs _ _) c.before.answered-1.given.1 c.before.before.before.room_behind-answered.ensures in
+    let left = subst (RoomIs _ _) c.in-Words.is c.before.room_behind-answered.ensures in
     (m, λ cs e. fit_goes ((loc k).loop-at.invariant.1 cs e) (more k) _ (begun k) _ left)
 
 returns : tie.Need-returns invariant_loop decreases_loop

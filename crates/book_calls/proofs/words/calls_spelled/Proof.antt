@@ -29,18 +29,18 @@ module _ (l : tie.At-loop-at invariant_loop decreases_loop) where
 -- no call begins at the index
 module _ (c : tie.In_default invariant_loop decreases_loop) where
   abbrev stopped : tie.At-loop-at invariant_loop decreases_loop
-  stopped = c.before.before.before.before
+  stopped = c.before.before.before
 
   told_next : NextIs (words stopped) (at stopped) (call_at (drop (at stopped) (words stopped))) Nowhere
-  told_next = subst (NextIs _ _ _) c.enum_told-1.given.1 c.before.before.next_call-next.ensures
+  told_next = subst (NextIs _ _ _) c.in_default.is c.before.next_call-next.ensures
 
 -- a call begins at the index
 module _ (c : tie.In-At invariant_loop decreases_loop) where
   abbrev loc : tie.At-loop-at invariant_loop decreases_loop
-  loc = c.before.before.before.before.before
+  loc = c.before.before.before
 
-  begun : NextIs (words loc) (at loc) (call_at (drop (at loc) (words loc))) (At c.before.next-1.given.0.0)
-  begun = subst (NextIs _ _ _) c.before.next-1.given.1 c.before.before.before.next_call-next.ensures
+  begun : NextIs (words loc) (at loc) (call_at (drop (at loc) (words loc))) (At c.in-At.behind)
+  begun = subst (NextIs _ _ _) c.in-At.is c.before.next_call-next.ensures
 
 loop-at-init : tie.Need-loop-at-init invariant_loop decreases_loop
 loop-at-init c = (omega arith, refl)
@@ -57,7 +57,7 @@ enum_told-1 c = search rules
 returns-in_default : tie.Need-returns-in_default invariant_loop decreases_loop
 returns-in_default c =
     let l = stopped c in
-    let none_here = spelled_nowhere (words l) (at l) c.before.before.before.loop-at-test.true (told_next c) in
+    let none_here = spelled_nowhere (words l) (at l) c.before.before.loop-at-test.true (told_next c) in
     sym (ap is_some none_here) ∙ l.loop-at.invariant.1
 
 loop-at-smaller : tie.Need-loop-at-smaller invariant_loop decreases_loop
@@ -67,7 +67,7 @@ loop-at-preserved : tie.Need-loop-at-preserved invariant_loop decreases_loop
 loop-at-preserved c =
     let k = loc c in
     let (b, e, r, l, m) = was_somewhere _ _ _ _ (begun c) in
-    (m, sym (spelled_next (words k) (at k) c.before.before.before.before.loop-at-test.true _ (begun c)) ∙ k.loop-at.invariant.1)
+    (m, sym (spelled_next (words k) (at k) c.before.before.loop-at-test.true _ (begun c)) ∙ k.loop-at.invariant.1)
 
 returns : tie.Need-returns invariant_loop decreases_loop
 returns c =

@@ -29,9 +29,9 @@ bounds-counts-i c = search rules
 returns-then-most-counts : tie.Need-returns-then-most-counts invariant_loop decreases_loop
 unfolding counts_high
 returns-then-most-counts c =
-    let a = c.before.before.before.before.args in
-    let l = c.before.before.before.loop-i in
-    sym (above_yes (a.size / 4096) 33 (λ k. get_or a.counts.now k 0) l.i c.before.before.loop-i-test.true c.if-most-counts.true)
+    let a = c.before.before.before.before.before.args in
+    let l = c.before.before.before.before.loop-i in
+    sym (above_yes (a.size / 4096) 33 (λ k. get_or a.counts.now k 0) l.i c.before.before.before.loop-i-test.true c.if-most-counts.true)
 
 overflow_add-i : tie.Need-overflow_add-i invariant_loop decreases_loop
 overflow_add-i c = search rules
@@ -41,8 +41,8 @@ loop-i-smaller c = search rules
 
 loop-i-preserved : tie.Need-loop-i-preserved invariant_loop decreases_loop
 loop-i-preserved c =
-    let a = c.before.before.before.before.args in
-    let l = c.before.before.before.loop-i in
+    let a = c.before.before.before.before.before.args in
+    let l = c.before.before.before.before.loop-i in
     (search rules, above_step (a.size / 4096) l.i (λ k. get_or a.counts.now k 0) l.invariant.1 c.if-most-counts.false)
 
 returns : tie.Need-returns invariant_loop decreases_loop

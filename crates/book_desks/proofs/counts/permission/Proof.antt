@@ -25,10 +25,10 @@ bounds-counts-d-2 : tie.Need-bounds-counts-d-2
 bounds-counts-d-2 c = search rules
 
 past_ceiling-requires : tie.Need-past_ceiling-requires
-past_ceiling-requires c κs = let k = c.before.before.requires in omega (arith, held_small k, k.asked)
+past_ceiling-requires c κs = let k = c.before.before.before.requires in omega (arith, held_small k, k.asked)
 
 returns-then-past_ceiling : tie.Need-returns-then-past_ceiling
-returns-then-past_ceiling c = judged_past c.before.before.before.before.requires (sym c.before.past_ceiling.ensures ∙ c.if-past_ceiling.true)
+returns-then-past_ceiling c = judged_past c.before.before.before.before.before.requires (sym c.before.past_ceiling.ensures ∙ c.if-past_ceiling.true)
 
 overflow_add-reserve : tie.Need-overflow_add-reserve
 overflow_add-reserve c = search rules
@@ -43,26 +43,26 @@ to_be_had-had-requires : tie.Need-to_be_had-had-requires
 to_be_had-had-requires c κs = search rules
 
 sum_of_lacks-lacking-requires : tie.Need-sum_of_lacks-lacking-requires
-sum_of_lacks-lacking-requires c κs = reserves_small c.before.before.before.before.before.before.requires
+sum_of_lacks-lacking-requires c κs = reserves_small c.before.before.before.before.before.before.before.requires
 
 without-requires : tie.Need-without-requires
 without-requires c κs = search rules
 
 overflow_add-had : tie.Need-overflow_add-had
 overflow_add-had c =
-    let start = c.before.before.before.before.before.before.before.before in
+    let start = c.before.before.before.before.before.before.before.before.before in
     let k = start.requires in
     omega (arith, reserves_small k start.args.desk k.known, k.left, k.body)
 
 overflow_add-held-2 : tie.Need-overflow_add-held-2
-overflow_add-held-2 c = let k = c.before.before.before.before.before.before.before.before.requires in omega (arith, held_small k, k.asked)
+overflow_add-held-2 c = let k = c.before.before.before.before.before.before.before.before.before.requires in omega (arith, held_small k, k.asked)
 
 without-requires-2 : tie.Need-without-requires-2
 without-requires-2 c κs = search rules
 
 overflow_add-lacking : tie.Need-overflow_add-lacking
 overflow_add-lacking c =
-    let start = c.before.before.before.before.before.before.before.before.before in
+    let start = c.before.before.before.before.before.before.before.before.before.before in
     let k = start.requires in
     omega (arith, reserves_small k start.args.desk k.known, lacks_small k)
 
@@ -70,13 +70,13 @@ returns-then-had-without : tie.Need-returns-then-had-without
 returns-then-had-without c =
     let judged = c.before.before.before.before.before.before in
     let within = sym judged.before.past_ceiling.ensures ∙ judged.if-past_ceiling.false in
-    judged_into judged.before.before.before.before.requires within (omega arith)
+    judged_into judged.before.before.before.before.before.requires within (omega arith)
 
 returns : tie.Need-returns
 returns c =
     let judged = c.before.before.before.before.before.before in
     let within = sym judged.before.past_ceiling.ensures ∙ judged.if-past_ceiling.false in
-    judged_none judged.before.before.before.before.requires within (omega arith)
+    judged_none judged.before.before.before.before.before.requires within (omega arith)
 
 pub permission_spec : {M : Type 1} → statement M
 permission_spec =

@@ -68,10 +68,10 @@ without-sum-requires c κs = search rules
 
 overflow_add-sum : tie.Need-overflow_add-sum invariant_loop decreases_loop
 overflow_add-sum c =
-    let l = c.before.before.before.before.loop-d in
+    let l = c.before.before.before.before.before.loop-d in
     omega (
       arith,
-      (start c.before.before.before.before.before).pre l.d c.before.before.before.loop-d-test.true,
+      (start c.before.before.before.before.before.before).requires l.d c.before.before.before.before.loop-d-test.true,
       c.without-sum.ensures,
     )
 
@@ -83,9 +83,9 @@ loop-d-smaller c = search rules
 
 loop-d-preserved : tie.Need-loop-d-preserved invariant_loop decreases_loop
 loop-d-preserved c =
-    let l = c.before.before.before.before.loop-d in
-    let s = start c.before.before.before.before.before in
-    let small = s.pre l.d c.before.before.before.loop-d-test.true in (
+    let l = c.before.before.before.before.before.loop-d in
+    let s = start c.before.before.before.before.before.before in
+    let small = s.requires l.d c.before.before.before.before.loop-d-test.true in (
       search rules,
       sum_step (lack_at s.args.counts.now) l.d l.sum c.without-sum.result l.invariant.1 c.without-sum.ensures,
       omega (arith, small, c.without-sum.ensures),

@@ -35,8 +35,8 @@ bounds-counts-d c = search rules
 
 overflow_add-sum-in-loop-d : tie.Need-overflow_add-sum-in-loop-d invariant_loop decreases_loop
 overflow_add-sum-in-loop-d c =
-    let l = c.before.before.loop-d in
-    omega (arith, c.before.before.before.requires l.d c.before.loop-d-test.true)
+    let l = c.before.before.before.loop-d in
+    omega (arith, c.before.before.before.before.requires l.d c.before.before.loop-d-test.true)
 
 overflow_add-d : tie.Need-overflow_add-d invariant_loop decreases_loop
 overflow_add-d c = search rules
@@ -46,9 +46,9 @@ loop-d-smaller c = search rules
 
 loop-d-preserved : tie.Need-loop-d-preserved invariant_loop decreases_loop
 loop-d-preserved c =
-    let l = c.before.before.loop-d in
-    let start = c.before.before.before in
-    let small = start.requires l.d c.before.loop-d-test.true in
+    let l = c.before.before.before.loop-d in
+    let start = c.before.before.before.before in
+    let small = start.requires l.d c.before.before.loop-d-test.true in
     let kept = kept_at start.args.counts.now in
     (search rules, sum_step kept l.d l.sum (kept l.d) l.invariant.1 refl, omega (arith, small))
 

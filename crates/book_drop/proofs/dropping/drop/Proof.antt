@@ -23,7 +23,7 @@ module _ (t : tie.Start) where
 -- the shape passed its test
 module _ (c : tie.Else-shape_broken) where
   abbrev at : tie.Start
-  at = c.before.before.before.before.before.before
+  at = c.before.before.before.before.before
 
   whole : shape_broken (book at).space (length (book at).heads) ≡ false
   whole = sym (c.before.shape_broken.ensures at.args.free.now) ∙ c.if-shape_broken.false
@@ -48,7 +48,7 @@ shape_of-body-then-shape_broken c = search rules
 returns-then-shape_broken : tie.Need-returns-then-shape_broken
 returns-then-shape_broken c =
     let s = c.before in
-    let t = s.before.before.before.before.before in
+    let t = s.before.before.before.before in
     let a = t.args in
     let broken = sym (s.shape_broken.ensures a.free.now) ∙ c.if-shape_broken.true in
     let d = ends_refused (book t) _ (drop_broken a.desk (book t) a.key broken) in
@@ -95,18 +95,18 @@ shape_of-body-in_default c = search rules
 
 returns-in_default : tie.Need-returns-in_default
 returns-in_default c =
-    let u = c.before.before in
+    let u = c.before in
     let k = u.before.before in
     let e = shaped k in
     let t = at e in
     let d = ends_refused (book t) _
     (drop_nowhere t.args.desk (book t) t.args.key (whole e) (known k) (keyed k) (sym u.unpack8-head.ensures
-    ∙ ap unpack_answer c.enum_told-1.given.1)) in
+    ∙ ap unpack_answer c.in_default.is)) in
     (d.told, d.left)
 
 drop_at-requires : tie.Need-drop_at-requires
 drop_at-requires c κs =
-    let k = c.before.before.before.before.before.before.before.before.before.before in
+    let k = c.before.before.before.before.before.before.before.before in
     let b = book (at (shaped k)) in
     let s = shape_holds b.space (length b.heads) (whole (shaped k)) in
     record { within = s.0.within; known = known k; keyed = keyed k }
@@ -120,15 +120,15 @@ shape_of-heads c = search rules
 returns : tie.Need-returns
 returns c =
     let r = c.before.before.before.before in
-    let g = r.before.before.before.before.before.before.before in
-    let u = g.before.before in
+    let g = r.before.before.before.before.before.before in
+    let u = g.before in
     let k = u.before.before in
     let e = shaped k in
     let t = at e in
     let a = t.args in
     let d = r.drop_at.ensures in
-    rw (drop_there a.desk (book t) a.key (whole e) (known k) (keyed k) g.head-1.given.0.0 (sym u.unpack8-head.ensures
-    ∙ ap unpack_answer g.head-1.given.1))
+    rw (drop_there a.desk (book t) a.key (whole e) (known k) (keyed k) g.in-Head.place (sym u.unpack8-head.ensures
+    ∙ ap unpack_answer g.in-Head.is))
     (d.told, d.left)
 
 pub drop_spec : {M : Type 1} → statement M

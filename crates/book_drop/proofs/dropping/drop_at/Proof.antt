@@ -48,14 +48,14 @@ shape_of-heads-in-Empty c = search rules
 returns-in-Empty : tie.Need-returns-in-Empty
 returns-in-Empty c =
     let d = c.before.before.before.before in
-    let t = d.before.before.before.before in
+    let t = d.before.before.before in
     let b = book t in
     let desk = t.args.desk in
     let key = t.args.key in
     does_same
     (drop_yes desk b key Empty (record { numbers = []; blocks = []; pages = 0; padded = 0 }) 0 b.space
     (content_empty (seen b.space)) refl refl (sym (release_none b.space))
-    ∙ ap (drops_at desk b key) (sym d.enum_told-1.given.1))
+    ∙ ap (drops_at desk b key) (sym d.in-Empty.is))
     (c.before.before.accept_drop.ensures b b.space b.counts refl)
 
 shape_of-heads-in-Inline : tie.Need-shape_of-heads-in-Inline
@@ -64,16 +64,16 @@ shape_of-heads-in-Inline c = search rules
 returns-in-Inline : tie.Need-returns-in-Inline
 returns-in-Inline c =
     let d = c.before.before.before.before in
-    let t = d.before.before.before.before in
+    let t = d.before.before.before in
     let b = book t in
     let desk = t.args.desk in
     let key = t.args.key in
-    let entry = d.enum_told-in-Inline-1.given.0.0 in
-    let used = d.enum_told-in-Inline-1.given.0.1.0 in
+    let entry = d.in-Inline.entry in
+    let used = d.in-Inline.used in
     does_same
     (drop_yes desk b key (Inline entry used) (record { numbers = entry ∷ []; blocks = []; pages = 0; padded = 0 }) 1 b.space
     (content_inline (seen b.space) entry used) refl refl
-    (sym (release_none b.space)) ∙ ap (drops_at desk b key) (sym d.enum_told-in-Inline-1.given.1))
+    (sym (release_none b.space)) ∙ ap (drops_at desk b key) (sym d.in-Inline.is))
     (c.before.before.accept_drop-in-Inline.ensures b b.space b.counts refl)
 
 shape_of-body-in-Slab : tie.Need-shape_of-body-in-Slab
@@ -85,9 +85,9 @@ shape_of-heads-in-Slab c = search rules
 returns-in-Slab : tie.Need-returns-in-Slab
 returns-in-Slab c =
     let s = c.before.before.before.before in
-    let d = s.before.before.before.before.before.before in
-    let a = d.before.before.before.before.args in
-    rw d.place-1.given.1 (s.drop_slab.ensures a.desk a.counts.now)
+    let d = s.before.before.before.before.before in
+    let a = d.before.before.before.args in
+    rw d.in-Slab.is (s.drop_slab.ensures a.desk a.counts.now)
 
 shape_of-body-in-Extent : tie.Need-shape_of-body-in-Extent
 shape_of-body-in-Extent c = search rules
@@ -98,8 +98,8 @@ shape_of-heads-in-Extent c = search rules
 returns-in-Extent : tie.Need-returns-in-Extent
 returns-in-Extent c =
     let s = c.before.before.before.before in
-    let d = s.before.before.before.before.before.before.before in
-    rw d.place-in-Extent-1.given.1 s.drop_chain.ensures
+    let d = s.before.before.before.before.before.before in
+    rw d.in-Extent.is s.drop_chain.ensures
 
 pub drop_at_spec : {M : Type 1} → statement M
 drop_at_spec =

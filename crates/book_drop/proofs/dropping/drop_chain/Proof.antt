@@ -30,29 +30,29 @@ module _ (t : tie.Start) where
   book = book_of t.args.body.now t.args.heads.now t.args.mark.now t.args.free.now t.args.counts.now
 
 -- the chain was walked
-module _ (c : tie.In-Chain-2) where
+module _ (c : tie.In-Chain) where
   abbrev at : tie.Start
-  at = c.before.before.before.before.before.before.before
+  at = c.before.before.before.before.before
 
   abbrev end : ChainEndOf
   end =
       record {
-        first = c.end-1.given.0.0;
-        length = c.end-1.given.0.1.0;
-        pages = c.end-1.given.0.1.1.0;
-        padded = c.end-1.given.0.1.1.1.0;
+        first = c.in-Chain.first;
+        length = c.in-Chain.length;
+        pages = c.in-Chain.pages;
+        padded = c.in-Chain.padded;
       }
 
   walked : (x : Chain) × (chain_at (seen (book at).space) at.args.last ≡ accepted x) × (chain_end_of false x ≡ end)
   walked =
-      let got = was_accepted (chain_end_of false) _ (sym c.before.before.chain_end-end.ensures ∙ ap chain_answer c.end-1.given.1) in (
+      let got = was_accepted (chain_end_of false) _ (sym c.before.chain_end-end.ensures ∙ ap chain_answer c.in-Chain.is) in (
         got.0,
         was_sound _ got.1,
         got.2,
       )
 
   left : PagesLeft (seen (book at).space) end.first end.pages walked.0.offs
-  left = chain_left false (seen (book at).space) at.args.last walked.0 end at.pre.within walked.1 walked.2
+  left = chain_left false (seen (book at).space) at.args.last walked.0 end at.requires.within walked.1 walked.2
 
   held : content_at (seen (book at).space) (Extent at.args.last) ≡ accepted (in_pages walked.0)
   held = content_pages (seen (book at).space) at.args.last walked.0 walked.1
@@ -65,8 +65,8 @@ module _ (c : tie.In-Chain-2) where
 
 -- its pages were judged
 module _ (g : tie.After-give_back-number) where
-  abbrev gone : tie.In-Chain-2
-  gone = g.before.before.before
+  abbrev gone : tie.In-Chain
+  gone = g.before.before
 
 chain_end-end-requires : tie.Need-chain_end-end-requires
 chain_end-end-requires c κs = search rules
@@ -82,17 +82,17 @@ shape_of-body-in_default c = search rules
 
 returns-in_default : tie.Need-returns-in_default
 returns-in_default c =
-    let t = c.before.before.before.before.before.before.before in
+    let t = c.before.before.before.before.before in
     let a = t.args in
-    let stop = was_refused (chain_end_of false) _ (sym c.before.before.chain_end-end.ensures
-    ∙ ap chain_answer c.enum_told-1.given.1) in
+    let stop = was_refused (chain_end_of false) _ (sym c.before.chain_end-end.ensures
+    ∙ ap chain_answer c.in_default.is) in
     let bad = was_unsound _ stop in
     ends_refused (book t) _
     (drop_no a.desk (book t) a.key (Extent a.last)
     (content_no_pages (seen (book t).space) a.last bad.1))
 
 give_back-number-requires : tie.Need-give_back-number-requires
-give_back-number-requires c κs = let d = c.before.before in record { known = (at d).requires.known; some = some d }
+give_back-number-requires c κs = let d = c.before in record { known = (at d).requires.known; some = some d }
 
 shape_of-body-then-number-ne0 : tie.Need-shape_of-body-then-number-ne0
 shape_of-body-then-number-ne0 c = search rules
@@ -128,12 +128,12 @@ returns c =
     let d = gone g in
     let a = (at d).args in
     let k = walked d in
-    let after = space r.release_chain.new.0 a.mark.now r.release_chain.new.1.0 in
+    let after = space r.release_chain.new.body a.mark.now r.release_chain.new.free in
     does_same
     (drop_given a.desk (book (at d)) a.key (Extent a.last) (in_pages k.0) (end d).pages (held d) (all d) (some d)
     g.give_back-number.ensures e.if-number-ne0.false (end d).length after (ap (λ (x : ChainEndOf). x.length) k.2)
     (r.release_chain.ensures a.mark.now k.0.offs (left d)))
-    (done.ensures (book (at d)) after g.give_back-number.new.0 refl)
+    (done.ensures (book (at d)) after g.give_back-number.new.counts refl)
 
 pub drop_chain_spec : {M : Type 1} → statement M
 drop_chain_spec =

@@ -36,12 +36,12 @@ module _ (t : tie.Start) where
 -- the slab was scanned
 module _ (c : tie.In-Scanned) where
   abbrev at : tie.Start
-  at = c.before.before.before.before.before.before.before
+  at = c.before.before.before.before.before
 
   scanned : (x : Scan) × (scan at ≡ accepted x)
   scanned =
-      let got = was_accepted (end_from 0) (soundly (scan at)) (sym c.before.before.slab_end-end.ensures
-      ∙ ap scan_answer c.enum_told-1.given.1) in (
+      let got = was_accepted (end_from 0) (soundly (scan at)) (sym c.before.slab_end-end.ensures
+      ∙ ap scan_answer c.in-Scanned.is) in (
         got.0,
         was_sound (scan at) got.1,
       )
@@ -52,12 +52,12 @@ module _ (c : tie.In-Scanned) where
 -- the slab isn't sound
 module _ (c : tie.In_default) where
   abbrev call : tie.Start
-  call = c.before.before.before.before.before.before.before
+  call = c.before.before.before.before.before
 
   unsound : (m : ℕ) × (scan call ≡ refused m)
   unsound =
       was_unsound (scan call)
-      (was_refused (end_from 0) (soundly (scan call)) (sym c.before.before.slab_end-end.ensures ∙ ap scan_answer c.enum_told-in_default-1.given.1))
+      (was_refused (end_from 0) (soundly (scan call)) (sym c.before.slab_end-end.ensures ∙ ap scan_answer c.in_default.is))
 
 slab_end-end-requires : tie.Need-slab_end-end-requires
 slab_end-end-requires c κs = search rules
@@ -101,7 +101,7 @@ returns c desk counts =
     let d = r.before.before.before in
     let t = at d in
     let a = t.args in
-    let after = space r.release_block.new.0 a.mark.now r.release_block.new.1.0 in
+    let after = space r.release_block.new.body a.mark.now r.release_block.new.free in
     does_same
     (drop_yes desk (book t counts) a.key (Slab a.class a.used a.off)
     (in_slab (seen (here t)) a.class a.off (scanned d).0) a.used after

@@ -31,12 +31,12 @@ module _ (t : tie.In-loop-left invariant_loop decreases_loop) where
   at = t.before.before.before
 
   abbrev s : Space
-  s = space t.before.loop-left.body at.pre.0 t.before.loop-left.free
+  s = space t.before.loop-left.body at.requires.0 t.before.loop-left.free
 
   stands : is_block page_class t.before.loop-left.off (length t.before.loop-left.body) ≡ true
   stands =
-      let g = t.before.loop-left.invariant.1 at.pre.0 at.pre.1 at.pre.2 in
-      (page_turn s t.before.loop-left.off t.before.loop-left.left g.offs t.loop-left-test.taken g.pages).stands
+      let g = t.before.loop-left.invariant.1 at.requires.0 at.requires.1 at.requires.2 in
+      (page_turn s t.before.loop-left.off t.before.loop-left.left g.offs t.loop-left-test.true g.pages).stands
 
   fits : t.before.loop-left.off + 4096 ≤ length t.before.loop-left.body
   fits = (block_stands page_class t.before.loop-left.off (length t.before.loop-left.body) stands).ends
@@ -45,10 +45,10 @@ loop-left-init : tie.Need-loop-left-init invariant_loop decreases_loop
 loop-left-init c = (refl, λ mark whole p. record { offs = whole; pages = p; gives = refl })
 
 next_page-next-requires : tie.Need-next_page-next-requires invariant_loop decreases_loop
-next_page-next-requires c κs = fits c.before
+next_page-next-requires c κs = fits c
 
 release_block-requires : tie.Need-release_block-requires invariant_loop decreases_loop
-release_block-requires c κs = stands c.before.before.before.before
+release_block-requires c κs = stands c.before.before.before
 
 overflow_sub-left : tie.Need-overflow_sub-left invariant_loop decreases_loop
 overflow_sub-left c = omega arith
@@ -58,7 +58,7 @@ loop-left-smaller c = omega arith
 
 loop-left-preserved : tie.Need-loop-left-preserved invariant_loop decreases_loop
 loop-left-preserved c =
-    let t = c.before.before.before.before.before.before.before in
+    let t = c.before.before.before.before.before.before in
     let r = c.before.before.release_block in
     let next = c.before.before.before.before.before.next_page-next in
     let l = t.before.loop-left in

@@ -38,9 +38,9 @@ module _ (l : tie.At-loop-i invariant_loop decreases_loop) where
   b = book_of l.loop-i.body l.loop-i.heads l.loop-i.mark l.loop-i.free l.loop-i.counts
 
   -- what is known of it
-  known : Extending start.args.desk start.args.key start.args.fks.now start.pre.whole b l.loop-i.i l.loop-i.moves
+  known : Extending start.args.desk start.args.key start.args.fks.now start.requires.whole b l.loop-i.i l.loop-i.moves
       l.loop-i.rewritten
-  known = l.loop-i.invariant.3 start.pre.whole start.pre.extending
+  known = l.loop-i.invariant.3 start.requires.whole start.requires.extending
 
 -- an append was made
 module _ (a : tie.After-append_past-answer invariant_loop decreases_loop) where
@@ -49,23 +49,23 @@ module _ (a : tie.After-append_past-answer invariant_loop decreases_loop) where
 
   -- a number was left
   more : loc.loop-i.i < length (start loc).args.fks.now
-  more = a.before.before.before.before.before.before.before.loop-i-test.taken
+  more = a.before.before.before.before.before.before.before.loop-i-test.true
 
   -- the book after it
   abbrev after : Book
-  after = book_of a.append_past-answer.last.0 a.append_past-answer.last.1.0 a.append_past-answer.last.1.1.0 a.append_past-answer.last.1.1.1.0
-      a.append_past-answer.last.1.1.1.1.0
+  after = book_of a.append_past-answer.new.body a.append_past-answer.new.heads a.append_past-answer.new.mark a.append_past-answer.new.free
+      a.append_past-answer.new.counts
 
 -- it was accepted
 module _ (k : tie.In-Appended invariant_loop decreases_loop) where
   abbrev did : tie.After-append_past-answer invariant_loop decreases_loop
-  did = k.before.before.before.before.before.before.before
+  did = k.before.before.before.before.before
 
   abbrev to : Appended
-  to = appended_to k.before.answer-1.given.0.0.place k.before.answer-1.given.0.0.rewritten
+  to = appended_to k.in-Appended.to.place k.in-Appended.to.rewritten
 
   is : append_answer did.append_past-answer.result ≡ accepted to
-  is = ap append_answer k.before.answer-1.given.1
+  is = ap append_answer k.in-Appended.is
 
   -- few moves were made and few records rewritten
   few : ((loc did).loop-i.rewritten + to.rewritten ≤ 65792) × ((loc did).loop-i.moves + moved to.rewritten ≤ (loc did).loop-i.i + 1)
@@ -119,9 +119,9 @@ returns-in_default : tie.Need-returns-in_default invariant_loop decreases_loop
 returns-in_default c = λ whole x.
     let r = c.before.before in
     let e = r.before in
-    let a = e.before.before.before.before.before.before in
+    let a = e.before.before.before.before.before in
     let y = (loc a).loop-i.invariant.3 whole x in
-    let stop = refused_as _ _ (ap append_answer e.enum_told-1.given.1) r.refusal.ensures in
+    let stop = refused_as _ _ (ap append_answer e.in_default.is) r.refusal.ensures in
     step_stops y (more a) (after a) a.append_past-answer.ensures.told a.append_past-answer.ensures.left stop (extended_by c.told.result)
     (λ place stands. c.told.ensures place stands)
 
@@ -145,8 +145,8 @@ go_on-i-requires : tie.Need-go_on-i-requires invariant_loop decreases_loop
 go_on-i-requires c κs =
     let a = did c.before.before.before.before.before in
     let l = loc a in
-    let long : length a.append_past-answer.last.1.0 ≡ length l.loop-i.heads = search rules in
-    (omega (arith, (start l).pre.keyed, l.loop-i.invariant.1, long), omega (arith, more a))
+    let long : length a.append_past-answer.new.heads ≡ length l.loop-i.heads = search rules in
+    (omega (arith, (start l).requires.keyed, l.loop-i.invariant.1, long), omega (arith, more a))
 
 loop-i-smaller : tie.Need-loop-i-smaller invariant_loop decreases_loop
 loop-i-smaller c =
@@ -168,8 +168,8 @@ loop-i-preserved c =
       search rules,
       g.go_on-i.ensures.within,
       λ whole x.
-          g.go_on-i.ensures.goes s.args.desk a.append_past-answer.last.1.1.1.0 a.append_past-answer.last.1.1.1.1.0
-          s.pre.known whole _ _
+          g.go_on-i.ensures.goes s.args.desk a.append_past-answer.new.free a.append_past-answer.new.counts
+          s.requires.known whole _ _
           (step_on (l.loop-i.invariant.3 whole x) (more a) (after a) a.append_past-answer.ensures.told a.append_past-answer.ensures.left (is k)
           (l.loop-i.moves + m.moved-moves.result) (l.loop-i.rewritten + (to k).rewritten) counted refl),
       g.go_on-i.ensures.stopped,

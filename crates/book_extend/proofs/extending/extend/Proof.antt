@@ -32,7 +32,7 @@ module _ (s : tie.Start) where
 -- the shape is kept
 module _ (c : tie.Else-shape_broken) where
   abbrev start : tie.Start
-  start = c.before.before.before.before.before.before.before
+  start = c.before.before.before.before.before.before
 
   -- the definition's test says so too
   shape : shape_broken (b start).space (length (b start).heads) ≡ false
@@ -44,7 +44,7 @@ module _ (e : tie.Else-heads-key) where
   from = start e.before.before
 
   known : KeyKnown from.args.desk (b from) from.args.key
-  known = record { shape = shape e.before.before; known = e.before.if-desk.left; keyed = e.if-heads-key.left }
+  known = record { shape = shape e.before.before; known = e.before.if-desk.false; keyed = e.if-heads-key.false }
 
   -- the mark lies within the body
   marked : from.args.mark.now ≤ length from.args.body.now
@@ -58,28 +58,28 @@ module _ (f : tie.After-extend_in_place-reached) where
   abbrev reach : Reached → Type 0
   reach r =
       let a = (from passed).args in
-      Reaches a.body.now a.heads.now a.mark.now a.key a.fks.now 0 f.extend_in_place-reached.last.0
-      f.extend_in_place-reached.last.1.0 r
+      Reaches a.body.now a.heads.now a.mark.now a.key a.fks.now 0 f.extend_in_place-reached.new.body
+      f.extend_in_place-reached.new.heads r
 
   -- the book then
   abbrev then : Book
-  then = book_of f.extend_in_place-reached.last.0 f.extend_in_place-reached.last.1.0 (from passed).args.mark.now (from passed).args.free.now
+  then = book_of f.extend_in_place-reached.new.body f.extend_in_place-reached.new.heads (from passed).args.mark.now (from passed).args.free.now
       (from passed).args.counts.now
 
 -- they did
 module _ (k : tie.In-To) where
   abbrev went : tie.After-extend_in_place-reached
-  went = k.before.before.before.before.before.before.before
+  went = k.before.before.before.before.before
 
   abbrev s : tie.Start
   s = from (passed went)
 
   abbrev index : ℕ
-  index = k.before.reached-1.given.0.0
+  index = k.in-To.from
 
   in_place : InPlace s.args.body.now s.args.heads.now s.args.mark.now s.args.key (numbers s) 0
-      went.extend_in_place-reached.last.0 went.extend_in_place-reached.last.1.0 index
-  in_place = subst (reach went) k.before.reached-1.given.1 went.extend_in_place-reached.ensures
+      went.extend_in_place-reached.new.body went.extend_in_place-reached.new.heads index
+  in_place = subst (reach went) k.in-To.is went.extend_in_place-reached.ensures
 
   -- the whole
   abbrev whole : Outcome Extended
@@ -100,7 +100,7 @@ shape_of-body-then-shape_broken c = search rules
 returns-then-shape_broken : tie.Need-returns-then-shape_broken
 returns-then-shape_broken c =
     let t = c.before in
-    let s = t.before.before.before.before.before.before in
+    let s = t.before.before.before.before.before in
     let a = s.args in
     let d = does_no (b s) (b s) (refused shape_bad) (extends a.desk (b s) a.key (numbers s))
     (extends_shape a.desk (b s) a.key (numbers s) (sym (t.shape_broken.ensures a.free.now) ∙ c.if-shape_broken.true)) refl refl in
@@ -146,13 +146,13 @@ shape_of-heads-in_default c = search rules
 
 returns-in_default : tie.Need-returns-in_default
 returns-in_default c =
-    let f = c.before.before.before.before.before.before in
+    let f = c.before.before.before.before.before in
     let e = passed f in
     let s = from e in
     let a = s.args in
-    let p = subst (reach f) c.enum_told-1.given.1 f.extend_in_place-reached.ensures in
+    let p = subst (reach f) c.in_default.is f.extend_in_place-reached.ensures in
     let same : then f ≡ b s =
-    ap (λ (l : List ℕ). book_of l f.extend_in_place-reached.new.1.0 a.mark.now a.free.now a.counts.now) p.body_kept
+    ap (λ (l : List ℕ). book_of l f.extend_in_place-reached.new.heads a.mark.now a.free.now a.counts.now) p.body_kept
     ∙ ap (λ (l : List ℕ). book_of a.body.now l a.mark.now a.free.now a.counts.now) p.heads_kept in
     let d = does_no (b s) (then f) (refused key_unsound) (extends a.desk (b s) a.key (numbers s))
     (extends_unsound a.desk (b s) a.key (numbers s) (known e) (p.unsound a.free.now a.counts.now)) refl same in
@@ -162,7 +162,7 @@ append_from-by-requires : tie.Need-append_from-by-requires
 append_from-by-requires c κs =
     let k = c.before.before.before.before.before in
     let e = passed (went k) in
-    let long : length (went k).extend_in_place-reached.new.1.0 ≡ length (s k).args.heads.now = search rules in
+    let long : length (went k).extend_in_place-reached.new.heads ≡ length (s k).args.heads.now = search rules in
     record {
       known = (known e).known;
       keyed = omega (arith, (known e).keyed, long);
@@ -184,8 +184,8 @@ returns c =
     let k = g.before.before.before.before.before.before in
     let a = (s k).args in
     let ends = g.append_from-by.ensures (whole k) (extending k) in
-    let after = book_of g.append_from-by.new.0 g.append_from-by.new.1.0 g.append_from-by.new.1.1.0
-    g.append_from-by.new.1.1.1.0 g.append_from-by.new.1.1.1.1.0 in
+    let after = book_of g.append_from-by.new.body g.append_from-by.new.heads g.append_from-by.new.mark
+    g.append_from-by.new.free g.append_from-by.new.counts in
     let d = does_yes (b (s k)) after (accepted (extended_by g.append_from-by.result)) (extends a.desk (b (s k)) a.key (numbers (s k)))
     (extends_on a.desk (b (s k)) a.key (numbers (s k)) (known (passed (went k)))
     ((in_place k).sound a.free.now a.counts.now)) (ap accepted ends.told) ends.left in

@@ -31,7 +31,7 @@ module _ (s : tie.Start) where
       s.args.body.now s.args.heads.now s.args.from
   none place sound stop = record {
     later = omega arith;
-    within = s.pre.2;
+    within = s.requires.2;
     place = place;
     sound = sound;
     goes = λ desk free counts known whole moves rewritten x. x;
@@ -48,13 +48,13 @@ module _ (s : tie.Start) where
 -- the head word told a place
 module _ (k : tie.In-Head) where
   abbrev unpacked : tie.After-unpack8-head
-  unpacked = k.before.before.before
+  unpacked = k.before
 
   abbrev start : tie.Start
   start = unpacked.before.before.before.before.before
 
-  stands : unpack_head (get_or start.args.heads.now start.args.key 0) ≡ accepted k.before.head-1.given.0.0
-  stands = sym unpacked.unpack8-head.ensures ∙ ap unpack_answer k.before.head-1.given.1
+  stands : unpack_head (get_or start.args.heads.now start.args.key 0) ≡ accepted k.in-Head.place
+  stands = sym unpacked.unpack8-head.ensures ∙ ap unpack_answer k.in-Head.is
 
 offset_bounds-heads-key : tie.Need-offset_bounds-heads-key
 offset_bounds-heads-key c = search rules
@@ -73,11 +73,11 @@ enum_told-1 c = search rules
 
 returns-in_default : tie.Need-returns-in_default
 returns-in_default c =
-    let u = c.before.before in
+    let u = c.before in
     let s = u.before.before.before.before.before in
     record {
       unsound = λ free counts.
-          standing_none (b s free counts) s.args.key (sym u.unpack8-head.ensures ∙ ap unpack_answer c.enum_told-1.given.1);
+          standing_none (b s free counts) s.args.key (sym u.unpack8-head.ensures ∙ ap unpack_answer c.in_default.is);
       body_kept = refl;
       heads_kept = refl;
     }
@@ -93,34 +93,34 @@ enum_known-place c = search rules
 
 extend_slab-requires : tie.Need-extend_slab-requires
 extend_slab-requires c κs =
-    let p = c.before.before.before in
-    let k = p.before.before in
+    let p = c.before.before in
+    let k = p.before in
     let pre = (start k).requires in
-    record { within = pre.0; keyed = pre.1; left = pre.2; stands = stands k ∙ ap accepted p.place-1.given.1 }
+    record { within = pre.0; keyed = pre.1; left = pre.2; stands = stands k ∙ ap accepted p.in-Slab.is }
 
 enum_known-place-in-Extent-1 : tie.Need-enum_known-place-in-Extent-1
 enum_known-place-in-Extent-1 c = search rules
 
 extend_page-requires : tie.Need-extend_page-requires
 extend_page-requires c κs =
-    let p = c.before.before.before in
-    let k = p.before.before in
+    let p = c.before.before in
+    let k = p.before in
     let pre = (start k).requires in
-    record { within = pre.0; keyed = pre.1; left = pre.2; stands = stands k ∙ ap accepted p.place-in-Extent-1.given.1 }
+    record { within = pre.0; keyed = pre.1; left = pre.2; stands = stands k ∙ ap accepted p.in-Extent.is }
 
 returns-in-Empty : tie.Need-returns-in-Empty
 returns-in-Empty c =
-    let k = c.before.before in
+    let k = c.before in
     let s = start k in
-    let is = stands k ∙ ap accepted c.enum_told-in-Empty-1.given.1 in
+    let is = stands k ∙ ap accepted c.in-Empty.is in
     none s _ (λ free counts. standing_empty (b s free counts) s.args.key is)
     (λ more free shape. empty_not (body_ground s.args.body.now s.args.mark) (next s) (word s) is)
 
 returns-in-Inline : tie.Need-returns-in-Inline
 returns-in-Inline c =
-    let k = c.before.before in
+    let k = c.before in
     let s = start k in
-    let is = stands k ∙ ap accepted c.enum_told-in-Inline-1.given.1 in
+    let is = stands k ∙ ap accepted c.in-Inline.is in
     none s _ (λ free counts. standing_inline (b s free counts) s.args.key _ _ is)
     (λ more free shape. inline_not (body_ground s.args.body.now s.args.mark) (next s) (word s) _ _ is)
 

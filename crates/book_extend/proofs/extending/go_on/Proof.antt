@@ -30,10 +30,10 @@ module _ (s : tie.Start) where
 -- the shape is kept
 module _ (e : tie.Else-shape_broken) where
   abbrev start : tie.Start
-  start = e.before.before.before.before.before.before.before
+  start = e.before.before.before.before.before.before
 
   shape : (free : List ℕ) → shape_broken (space start.args.body.now start.args.mark free) (length start.args.heads.now) ≡ false
-  shape free = sym (e.before.shape_broken.ensures free) ∙ e.if-shape_broken.left
+  shape free = sym (e.before.shape_broken.ensures free) ∙ e.if-shape_broken.false
 
   -- the mark lies within the body
   marked : start.args.mark ≤ length start.args.body.now
@@ -47,7 +47,7 @@ module _ (f : tie.After-extend_in_place-reached) where
   abbrev reach : Reached → Type 0
   reach r =
       Reaches (start kept).args.body.now (start kept).args.heads.now (start kept).args.mark (start kept).args.key
-      (start kept).args.fks.now (start kept).args.from f.extend_in_place-reached.last.0 f.extend_in_place-reached.last.1.0 r
+      (start kept).args.fks.now (start kept).args.from f.extend_in_place-reached.new.body f.extend_in_place-reached.new.heads r
 
 returns-then-from-fks : tie.Need-returns-then-from-fks
 returns-then-from-fks c = none c.before.before.before.before (λ more. absurd (omega (arith, more, c.if-from-fks.true)))
@@ -59,7 +59,7 @@ shape_of-body-then-shape_broken : tie.Need-shape_of-body-then-shape_broken
 shape_of-body-then-shape_broken c = search rules
 
 returns-then-shape_broken : tie.Need-returns-then-shape_broken
-returns-then-shape_broken c = none c.before.before.before.before.before.before.before
+returns-then-shape_broken c = none c.before.before.before.before.before.before
     (λ more free shape. absurd (true≢false (sym c.if-shape_broken.true ∙ c.before.shape_broken.ensures free ∙ shape)))
 
 extend_in_place-reached-requires : tie.Need-extend_in_place-reached-requires
@@ -79,14 +79,14 @@ shape_of-heads-in-To c = search rules
 
 returns-in-To : tie.Need-returns-in-To
 returns-in-To c =
-    let f = c.before.before.before.before.before.before.before in
+    let f = c.before.before.before.before.before in
     let e = kept f in
-    let p = subst (reach f) c.before.reached-1.given.1 f.extend_in_place-reached.ensures in
+    let p = subst (reach f) c.in-To.is f.extend_in_place-reached.ensures in
     record {
       later = p.later;
       within = p.within;
       goes = λ desk free counts known whole moves rewritten x.
-          p.goes desk free counts (record { shape = shape e free; known = known; keyed = (start e).pre.0 }) whole moves rewritten x;
+          p.goes desk free counts (record { shape = shape e free; known = known; keyed = (start e).requires.0 }) whole moves rewritten x;
       stopped = p.stopped;
     }
 
@@ -98,19 +98,19 @@ shape_of-heads-in-Unsound c = search rules
 
 returns-in-Unsound : tie.Need-returns-in-Unsound
 returns-in-Unsound c =
-    let f = c.before.before.before.before.before.before in
+    let f = c.before.before.before.before.before in
     let a = (start (kept f)).args in
-    let p = subst (reach f) c.enum_told-1.given.1 f.extend_in_place-reached.ensures in
+    let p = subst (reach f) c.in-Unsound.is f.extend_in_place-reached.ensures in
     record {
       later = omega arith;
-      within = (start (kept f)).pre.1;
+      within = (start (kept f)).requires.1;
       goes = λ desk free counts known whole moves rewritten x.
           subst (λ (l : List ℕ). Extending desk a.key a.fks.now whole
-          (book_of l f.extend_in_place-reached.new.1.0 a.mark free counts) a.from moves rewritten) (sym p.body_kept)
+          (book_of l f.extend_in_place-reached.new.heads a.mark free counts) a.from moves rewritten) (sym p.body_kept)
           (subst (λ (l : List ℕ). Extending desk a.key a.fks.now whole (book_of a.body.now l a.mark free counts) a.from
           moves rewritten) (sym p.heads_kept) x);
       stopped =
-          subst (λ (l : List ℕ). Stopped l f.extend_in_place-reached.new.1.0 a.mark a.key a.fks.now a.from) (sym p.body_kept)
+          subst (λ (l : List ℕ). Stopped l f.extend_in_place-reached.new.heads a.mark a.key a.fks.now a.from) (sym p.body_kept)
           (subst (λ (l : List ℕ). Stopped a.body.now l a.mark a.key a.fks.now a.from) (sym p.heads_kept)
           (λ more free shape. unsound_not (book_of a.body.now a.heads.now a.mark free []) a.key
           (get_or a.fks.now a.from 0) (p.unsound free [])));

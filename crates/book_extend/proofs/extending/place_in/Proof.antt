@@ -17,13 +17,13 @@ enum_told-1 c = search rules
 
 returns-in-Head : tie.Need-returns-in-Head
 returns-in-Head c = λ place is.
-    let u = c.before.before.before in
-    accepted_inj (sym (ap unpack_answer c.before.head-1.given.1) ∙ u.unpack8-head.ensures ∙ is)
+    let u = c.before in
+    accepted_inj (sym (ap unpack_answer c.in-Head.is) ∙ u.unpack8-head.ensures ∙ is)
 
 returns-in-Refused : tie.Need-returns-in-Refused
 returns-in-Refused c = λ place is.
-    let u = c.before.before in
-    absurd (refused≢accepted (sym (ap unpack_answer c.enum_told-1.given.1) ∙ u.unpack8-head.ensures ∙ is))
+    let u = c.before in
+    absurd (refused≢accepted (sym (ap unpack_answer c.in-Refused.is) ∙ u.unpack8-head.ensures ∙ is))
 
 pub place_in_spec : {M : Type 1} → statement M
 place_in_spec = tie.close (tie.spec unpack8-head-requires enum_known-head enum_told-1 returns-in-Head returns-in-Refused)

@@ -12,7 +12,7 @@ place_in-place-requires c κs = search rules
 returns : tie.Need-returns
 returns c = λ place is.
     let a = c.before.args in
-    ap (λ (p : ShHeadValue). extended a.count a.refusal p a.moves a.rewritten) (c.IsPlace-in.ensures place is)
+    ap (λ (p : ShHeadValue). extended a.count a.refusal p a.moves a.rewritten) (c.place_in-place.ensures place is)
 
 pub told_spec : {M : Type 1} → statement M
 told_spec = tie.close (tie.spec place_in-place-requires returns)

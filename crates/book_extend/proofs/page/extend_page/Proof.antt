@@ -33,17 +33,17 @@ decreases_loop body₀ heads₀ mark key last fks from taken fk creates at₀ pr
 -- the page's end was told
 module _ (k : tie.In-Tail invariant_loop decreases_loop) where
   abbrev ended : tie.After-tail_end-end invariant_loop decreases_loop
-  ended = k.before.before.before
+  ended = k.before
 
   abbrev start : tie.Start invariant_loop decreases_loop
-  start = ended.before.before.before.before.before
+  start = ended.before.before.before.before
 
   -- the page ends so
-  begins : PageEnds (body_ground start.args.body.now start.args.mark) start.args.last k.before.end-1.given.0.0
-      k.before.end-1.given.0.1.0 k.before.end-1.given.0.1.1.1.0
+  begins : PageEnds (body_ground start.args.body.now start.args.mark) start.args.last k.in-Tail.taken
+      k.in-Tail.fk k.in-Tail.creates
   begins =
       let a = start.args in
-      let t = tail_told a.body.now a.mark [] a.last ended.tail_end-end.ensures (ap tail_answer k.before.end-1.given.1) in
+      let t = tail_told a.body.now a.mark [] a.last ended.tail_end-end.ensures (ap tail_answer k.in-Tail.is) in
       record { tail = t.tail; sound = t.sound; taken_is = t.taken_is; fk_is = t.fk_is; creates_is = t.creates_is }
 
 -- at a turn
@@ -68,7 +68,7 @@ module _ (l : tie.At-loop-i invariant_loop decreases_loop) where
 
   -- the mark lies within the body
   marked : from.args.mark ≤ length l.loop-i.body
-  marked = omega (arith, from.pre.within, put.body_long)
+  marked = omega (arith, from.requires.within, put.body_long)
 
   -- the numbers so far went into the page, and the next doesn't
   reached : Stopped l.loop-i.body l.loop-i.heads from.args.mark from.args.key from.args.fks.now l.loop-i.i
@@ -80,7 +80,7 @@ module _ (l : tie.At-loop-i invariant_loop decreases_loop) where
     place = Extent from.args.last;
     sound = λ free counts.
         standing_page (book_of from.args.body.now from.args.heads.now from.args.mark free counts) from.args.key
-        from.args.last from.pre.stands (begins l.before);
+        from.args.last from.requires.stands (begins l.before);
     goes = put.goes;
     stopped = stop;
   }
@@ -94,7 +94,7 @@ module _ (e : tie.Else-len-eq0 invariant_loop decreases_loop) where
   n = get_or (from loc).args.fks.now loc.loop-i.i 0
 
   takes : PageTakes n loc.loop-i.prev loc.loop-i.at e.before.form_in_page-len.result
-  takes = e.before.form_in_page-len.ensures.0 (omega (arith, e.if-len-eq0.left))
+  takes = e.before.form_in_page-len.ensures.0 (omega (arith, e.if-len-eq0.false))
 
 tail_end-end-requires : tie.Need-tail_end-end-requires invariant_loop decreases_loop
 tail_end-end-requires c κs = search rules
@@ -110,10 +110,10 @@ shape_of-body-in_default c = search rules
 
 returns-in_default : tie.Need-returns-in_default invariant_loop decreases_loop
 returns-in_default c =
-    let t = c.before.before in
-    let s = t.before.before.before.before.before in
+    let t = c.before in
+    let s = t.before.before.before.before in
     let a = s.args in
-    let is = tail_untold a.body.now a.mark [] a.last t.tail_end-end.ensures (ap tail_answer c.enum_told-1.given.1) in
+    let is = tail_untold a.body.now a.mark [] a.last t.tail_end-end.ensures (ap tail_answer c.in_default.is) in
     record {
       unsound = λ free counts.
           unsound_page (book_of a.body.now a.heads.now a.mark free counts) a.key a.last s.requires.stands is.1;
@@ -125,7 +125,7 @@ loop-i-init : tie.Need-loop-i-init invariant_loop decreases_loop
 loop-i-init c =
     let s = start c in
     let a = s.args in (
-      put_none a.body.now a.heads.now a.mark a.key a.fks.now a.from (Extent a.last) s.pre.left s.pre.stands,
+      put_none a.body.now a.heads.now a.mark a.key a.fks.now a.from (Extent a.last) s.requires.left s.requires.stands,
       begins c,
     )
 
@@ -174,7 +174,7 @@ grow_page-requires c κs =
 put_head-requires : tie.Need-put_head-requires invariant_loop decreases_loop
 put_head-requires c κs =
     let l = loc c.before.before.before.before.before in
-    omega (arith, (from l).pre.keyed, (put l).heads_long)
+    omega (arith, (from l).requires.keyed, (put l).heads_long)
 
 overflow_add-at : tie.Need-overflow_add-at invariant_loop decreases_loop
 overflow_add-at c = omega (arith, (takes c.before.before.before.before.before.before.before.before).room)
@@ -195,12 +195,12 @@ loop-i-preserved c =
     let e = g.before.before in
     let l = loc e in
     let s = from l in
-    let long : length g.grow_page.new.0 ≡ length l.loop-i.body = search rules in
+    let long : length g.grow_page.new.body ≡ length l.loop-i.body = search rules in
     let more : l.loop-i.i < length s.args.fks.now = e.before.before.before.loop-i-test.true in
-    let (p, w) = put_page s.args.last s.pre.keyed s.pre.within (put l) (ends l) more (takes e) g.grow_page.new.0
-    h.put_head.new.0 g.grow_page.ensures long h.put_head.ensures in (
+    let (p, w) = put_page s.args.last s.requires.keyed s.requires.within (put l) (ends l) more (takes e) g.grow_page.new.body
+    h.put_head.new.heads g.grow_page.ensures long h.put_head.ensures in (
       p,
-      subst (λ (t : ℕ). PageEnds (body_ground g.grow_page.new.0 s.args.mark) s.args.last
+      subst (λ (t : ℕ). PageEnds (body_ground g.grow_page.new.body s.args.mark) s.args.last
           (l.loop-i.at + e.before.form_in_page-len.result) (n e) t) (sym c.total_with-total.ensures) w,
     )
 

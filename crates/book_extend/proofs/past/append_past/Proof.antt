@@ -25,7 +25,7 @@ module _ (s : tie.Start) where
 -- the shape is kept
 module _ (c : tie.Else-shape_broken) where
   abbrev start : tie.Start
-  start = c.before.before.before.before.before.before
+  start = c.before.before.before.before.before
 
   -- the definition's test says so too
   shape : shape_broken (b start).space (length (b start).heads) ≡ false
@@ -47,22 +47,22 @@ module _ (c : tie.Else-refusal-ne0) where
   known : ToAppend from.args.desk (b from) from.args.key from.args.n
   known = record {
     shape = (shape_holds (b from).space (length (b from).heads) (shape kept)).0;
-    known = from.pre.known;
-    keyed = from.pre.keyed;
+    known = from.requires.known;
+    keyed = from.requires.keyed;
     above = fine.0;
     low = fine.1;
   }
 
 -- the head word told a place
-module _ (h : tie.In-Head-2) where
+module _ (h : tie.In-Head) where
   abbrev unpacked : tie.After-unpack8-head
-  unpacked = h.before.before
+  unpacked = h.before
 
   abbrev judged : tie.Else-refusal-ne0
   judged = unpacked.before.before
 
-  stands : unpack_head (get_or (b (from judged)).heads (from judged).args.key 0) ≡ accepted h.head-1.given.0.0
-  stands = sym unpacked.unpack8-head.ensures ∙ ap unpack_answer h.head-1.given.1
+  stands : unpack_head (get_or (b (from judged)).heads (from judged).args.key 0) ≡ accepted h.in-Head.place
+  stands = sym unpacked.unpack8-head.ensures ∙ ap unpack_answer h.in-Head.is
 
 shape_broken-requires : tie.Need-shape_broken-requires
 shape_broken-requires c κs = search rules
@@ -73,7 +73,7 @@ shape_of-body-then-shape_broken c = search rules
 returns-then-shape_broken : tie.Need-returns-then-shape_broken
 returns-then-shape_broken c =
     let t = c.before in
-    let s = t.before.before.before.before.before in
+    let s = t.before.before.before.before in
     let a = s.args in
     does_none (b s) (append_shape a.desk (b s) a.key a.n (sym (t.shape_broken.ensures a.free.now) ∙ c.if-shape_broken.true))
 
@@ -91,7 +91,7 @@ returns-then-refusal-ne0 c =
     let a = s.args in
     let is = judged_no (offered_number true 0 a.n (accepted 0)) j.judge_number-refusal.result j.judge_number-refusal.ensures
     c.if-refusal-ne0.true in
-    does_none (b s) (append_number a.desk (b s) a.key a.n (shape e) s.pre.known s.pre.keyed 0 is)
+    does_none (b s) (append_number a.desk (b s) a.key a.n (shape e) s.requires.known s.requires.keyed 0 is)
 
 offset_bounds-heads-at : tie.Need-offset_bounds-heads-at
 offset_bounds-heads-at c = search rules
@@ -113,24 +113,24 @@ shape_of-body-in_default c = search rules
 
 returns-in_default : tie.Need-returns-in_default
 returns-in_default c =
-    let u = c.before.before in
+    let u = c.before in
     let e = u.before.before in
     let s = from e in
     let a = s.args in
-    let p = s.pre in
-    let is = sym u.unpack8-head.ensures ∙ ap unpack_answer c.enum_told-1.given.1 in
+    let p = s.requires in
+    let is = sym u.unpack8-head.ensures ∙ ap unpack_answer c.in_default.is in
     does_none (b s)
     (append_unsound a.desk (b s) a.key a.n (shape (kept e)) p.known p.keyed (fine e).0 (fine e).1 is)
 
 append_past_at-requires : tie.Need-append_past_at-requires
 append_past_at-requires c κs =
-    let h = c.before.before.before.before.before.before in
+    let h = c.before.before.before.before.before in
     let e = judged h in
     let s = from e in
     record {
       to_append = known e;
       stands = stands h;
-      not_taken = s.pre.not_taken s.args.free.now (shape (kept e)) h.head-1.given.0.0 (stands h);
+      not_taken = s.requires.not_taken s.args.free.now (shape (kept e)) h.in-Head.place (stands h);
     }
 
 shape_of-body : tie.Need-shape_of-body
@@ -142,11 +142,11 @@ shape_of-heads c = search rules
 returns : tie.Need-returns
 returns c =
     let f = c.before.before.before.before in
-    let h = f.before.before.before.before.before.before.before in
+    let h = f.before.before.before.before.before.before in
     let e = judged h in
     let s = from e in
     let a = s.args in
-    let p = s.pre in
+    let p = s.requires in
     does_as
     (append_at_lem a.desk (b s) a.key a.n (shape (kept e)) p.known p.keyed (fine e).0 (fine e).1 (stands h))
     f.append_past_at.ensures

@@ -25,9 +25,9 @@ module _ (s : tie.Start) where
   -- the number doesn't stay at that place
   past : {place : ShHeadValue} → s.args.place ≡ place → PastAt s.args.desk b s.args.key s.args.n place
   past e = record {
-    to_append = s.pre.to_append;
-    stands = s.pre.stands ∙ ap accepted e;
-    not_taken = subst (NotTaken (seen b.space) s.args.n) e s.pre.not_taken;
+    to_append = s.requires.to_append;
+    stands = s.requires.stands ∙ ap accepted e;
+    not_taken = subst (NotTaken (seen b.space) s.args.n) e s.requires.not_taken;
   }
 
 enum_told-1 : tie.Need-enum_told-1
@@ -41,11 +41,11 @@ enum_known-place c = search rules
 
 append_inline-requires : tie.Need-append_inline-requires
 append_inline-requires c κs =
-    let p = c.before.before.before.before.before.before in
-    let s = p.before.before.before.before in
+    let p = c.before.before.before.before.before in
+    let s = p.before.before.before in
     record {
       to_append = s.requires.to_append;
-      some = inline_above (word_of s.args.key (b s)) _ _ (s.requires.stands ∙ ap accepted p.place-1.given.1);
+      some = inline_above (word_of s.args.key (b s)) _ _ (s.requires.stands ∙ ap accepted p.in-Inline.is);
     }
 
 enum_known-place-in-Slab-1 : tie.Need-enum_known-place-in-Slab-1
@@ -53,16 +53,16 @@ enum_known-place-in-Slab-1 c = search rules
 
 slab_past-requires : tie.Need-slab_past-requires
 slab_past-requires c κs =
-    let p = c.before.before.before.before.before.before in
-    past p.before.before.before.before p.place-in-Slab-1.given.1
+    let p = c.before.before.before.before.before in
+    past p.before.before.before p.in-Slab.is
 
 enum_known-place-in-Extent-1 : tie.Need-enum_known-place-in-Extent-1
 enum_known-place-in-Extent-1 c = search rules
 
 page_past-requires : tie.Need-page_past-requires
 page_past-requires c κs =
-    let p = c.before.before.before.before.before.before in
-    past p.before.before.before.before p.place-in-Extent-1.given.1
+    let p = c.before.before.before.before.before in
+    past p.before.before.before p.in-Extent.is
 
 shape_of-heads-in-Empty : tie.Need-shape_of-heads-in-Empty
 shape_of-heads-in-Empty c = search rules
@@ -70,8 +70,8 @@ shape_of-heads-in-Empty c = search rules
 returns-in-Empty : tie.Need-returns-in-Empty
 returns-in-Empty c =
     let t = c.before.before.before.before in
-    let s = t.before.before.before.before in
-    does_as (placed s t.enum_told-1.given.1 ∙ at_empty s.args.desk (b s) s.args.key s.args.n)
+    let s = t.before.before.before in
+    does_as (placed s t.in-Empty.is ∙ at_empty s.args.desk (b s) s.args.key s.args.n)
     (c.before.before.accept_append.ensures (b s) (b s).space (b s).counts refl)
 
 shape_of-body-in-Inline : tie.Need-shape_of-body-in-Inline
@@ -83,8 +83,8 @@ shape_of-heads-in-Inline c = search rules
 returns-in-Inline : tie.Need-returns-in-Inline
 returns-in-Inline c =
     let f = c.before.before.before.before in
-    let p = f.before.before.before.before.before.before.before in
-    does_as (placed p.before.before.before.before p.place-1.given.1) (f.append_inline.ensures _)
+    let p = f.before.before.before.before.before.before in
+    does_as (placed p.before.before.before p.in-Inline.is) (f.append_inline.ensures _)
 
 shape_of-body-in-Slab : tie.Need-shape_of-body-in-Slab
 shape_of-body-in-Slab c = search rules
@@ -95,8 +95,8 @@ shape_of-heads-in-Slab c = search rules
 returns-in-Slab : tie.Need-returns-in-Slab
 returns-in-Slab c =
     let f = c.before.before.before.before in
-    let p = f.before.before.before.before.before.before.before in
-    does_as (placed p.before.before.before.before p.place-in-Slab-1.given.1) f.slab_past.ensures
+    let p = f.before.before.before.before.before.before in
+    does_as (placed p.before.before.before p.in-Slab.is) f.slab_past.ensures
 
 shape_of-body-in-Extent : tie.Need-shape_of-body-in-Extent
 shape_of-body-in-Extent c = search rules
@@ -107,8 +107,8 @@ shape_of-heads-in-Extent c = search rules
 returns-in-Extent : tie.Need-returns-in-Extent
 returns-in-Extent c =
     let f = c.before.before.before.before in
-    let p = f.before.before.before.before.before.before.before in
-    does_as (placed p.before.before.before.before p.place-in-Extent-1.given.1) f.page_past.ensures
+    let p = f.before.before.before.before.before.before in
+    does_as (placed p.before.before.before p.in-Extent.is) f.page_past.ensures
 
 pub append_past_at_spec : {M : Type 1} → statement M
 append_past_at_spec =

@@ -17,18 +17,18 @@ module _ (s : tie.Start) where
 -- the last page's end was told
 module _ (k : tie.In-Tail) where
   abbrev ended : tie.After-tail_end-end
-  ended = k.before.before.before
+  ended = k.before
 
   abbrev start : tie.Start
-  start = ended.before.before.before.before.before
+  start = ended.before.before.before.before
 
   -- the page is sound, and ends so
-  told : TailTold (b start).space start.args.last k.before.end-1.given.0.0 k.before.end-1.given.0.1.0
-      k.before.end-1.given.0.1.1.0 k.before.end-1.given.0.1.1.1.0
+  told : TailTold (b start).space start.args.last k.in-Tail.taken k.in-Tail.fk
+      k.in-Tail.first k.in-Tail.creates
   told =
       let a = start.args in
       tail_told a.body.now a.mark.now a.free.now a.last ended.tail_end-end.ensures
-      (ap tail_answer k.before.end-1.given.1)
+      (ap tail_answer k.in-Tail.is)
 
 tail_end-end-requires : tie.Need-tail_end-end-requires
 tail_end-end-requires c κs = search rules
@@ -44,11 +44,11 @@ shape_of-body-in_default c = search rules
 
 returns-in_default : tie.Need-returns-in_default
 returns-in_default c =
-    let t = c.before.before in
-    let s = t.before.before.before.before.before in
+    let t = c.before in
+    let s = t.before.before.before.before in
     let a = s.args in
     let is = tail_untold a.body.now a.mark.now a.free.now a.last t.tail_end-end.ensures
-    (ap tail_answer c.enum_told-1.given.1) in
+    (ap tail_answer c.in_default.is) in
     does_none (b s) (page_unsound a.desk (b s) a.key a.n a.last is.1)
 
 shape_of-body-then-n-fk : tie.Need-shape_of-body-then-n-fk
@@ -67,8 +67,8 @@ grow_chain-requires c κs =
     let s = start k in
     let a = s.args in
     let t = told k in
-    let full = s.pre.not_taken t.tail t.sound (omega (arith, t.fk_is, e.if-n-fk.false)) s.pre.to_append.low in
-    page_full a.desk (b s) a.key a.n a.last t (omega (arith, e.if-n-fk.false)) s.pre.to_append
+    let full = s.requires.not_taken t.tail t.sound (omega (arith, t.fk_is, e.if-n-fk.false)) s.requires.to_append.low in
+    page_full a.desk (b s) a.key a.n a.last t (omega (arith, e.if-n-fk.false)) s.requires.to_append
     (rw (t.taken_is, t.fk_is) at full)
 
 shape_of-body : tie.Need-shape_of-body

@@ -17,18 +17,18 @@ module _ (s : tie.Start) where
 -- the slab's end was told
 module _ (k : tie.In-Scanned) where
   abbrev ended : tie.After-slab_end-end
-  ended = k.before.before.before
+  ended = k.before
 
   abbrev start : tie.Start
-  start = ended.before.before.before.before.before
+  start = ended.before.before.before.before
 
   -- the slab is sound, and ends so
-  told : SlabTold (b start).space start.args.class start.args.used start.args.off k.before.end-1.given.0.0
-      k.before.end-1.given.0.1.0
+  told : SlabTold (b start).space start.args.class start.args.used start.args.off k.in-Scanned.taken
+      k.in-Scanned.last
   told =
       let a = start.args in
       slab_told a.body.now a.mark.now a.free.now a.class a.used a.off
-      ended.slab_end-end.ensures (ap scan_answer k.before.end-1.given.1)
+      ended.slab_end-end.ensures (ap scan_answer k.in-Scanned.is)
 
 slab_end-end-requires : tie.Need-slab_end-end-requires
 slab_end-end-requires c κs = search rules
@@ -44,11 +44,11 @@ shape_of-body-in_default c = search rules
 
 returns-in_default : tie.Need-returns-in_default
 returns-in_default c =
-    let t = c.before.before in
-    let s = t.before.before.before.before.before in
+    let t = c.before in
+    let s = t.before.before.before.before in
     let a = s.args in
     let is = slab_untold a.body.now a.mark.now a.free.now a.class a.used a.off t.slab_end-end.ensures
-    (ap scan_answer c.enum_told-1.given.1) in
+    (ap scan_answer c.in_default.is) in
     does_none (b s) (slab_unsound a.desk (b s) a.key a.n a.class a.used a.off is.1)
 
 shape_of-body-then-n-last : tie.Need-shape_of-body-then-n-last
@@ -67,8 +67,8 @@ move_slab-requires c κs =
     let s = start k in
     let a = s.args in
     let t = told k in
-    let leaves = s.pre.not_taken t.scan t.sound (omega (arith, t.last_is, e.if-n-last.false)) s.pre.to_append.low in
-    slab_leaves a.desk (b s) a.key a.n a.class a.used a.off t (omega (arith, e.if-n-last.false)) s.pre.to_append
+    let leaves = s.requires.not_taken t.scan t.sound (omega (arith, t.last_is, e.if-n-last.false)) s.requires.to_append.low in
+    slab_leaves a.desk (b s) a.key a.n a.class a.used a.off t (omega (arith, e.if-n-last.false)) s.requires.to_append
     (rw (t.taken_is, t.last_is) at leaves)
 
 shape_of-body : tie.Need-shape_of-body

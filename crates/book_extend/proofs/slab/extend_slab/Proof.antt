@@ -34,18 +34,18 @@ decreases_loop body₀ heads₀ mark key class used off fks from taken last size
 -- the slab's end was told
 module _ (k : tie.In-Scanned invariant_loop decreases_loop) where
   abbrev ended : tie.After-slab_end-end invariant_loop decreases_loop
-  ended = k.before.before.before
+  ended = k.before
 
   abbrev start : tie.Start invariant_loop decreases_loop
-  start = ended.before.before.before.before.before
+  start = ended.before.before.before.before
 
   -- the slab ends so
   begins : SlabEnds (body_ground start.args.body.now start.args.mark) start.args.class start.args.used start.args.off
-      k.before.end-1.given.0.0 k.before.end-1.given.0.1.0
+      k.in-Scanned.taken k.in-Scanned.last
   begins =
       let a = start.args in
       let t = slab_told a.body.now a.mark [] a.class a.used a.off ended.slab_end-end.ensures
-      (ap scan_answer k.before.end-1.given.1) in
+      (ap scan_answer k.in-Scanned.is) in
       record { scan = t.scan; sound = t.sound; taken_is = t.taken_is; fk_is = t.last_is }
 
 -- at a turn
@@ -87,7 +87,7 @@ module _ (l : tie.At-loop-i invariant_loop decreases_loop) where
     place = Slab from.args.class from.args.used from.args.off;
     sound = λ free counts.
         standing_slab (book_of from.args.body.now from.args.heads.now from.args.mark free counts) from.args.key
-        from.args.class from.args.used from.args.off from.pre.stands (begins sized.before);
+        from.args.class from.args.used from.args.off from.requires.stands (begins sized.before);
     goes = put.goes;
     stopped = stop;
   }
@@ -101,7 +101,7 @@ module _ (e : tie.Else-len-eq0 invariant_loop decreases_loop) where
   n = get_or (from loc).args.fks.now loc.loop-i.i 0
 
   takes : SlabTakes (from loc).args.class loc.loop-i.count n loc.loop-i.prev loc.loop-i.at e.before.form_in_slab-len.result
-  takes = e.before.form_in_slab-len.ensures.0 (omega (arith, e.if-len-eq0.left))
+  takes = e.before.form_in_slab-len.ensures.0 (omega (arith, e.if-len-eq0.false))
 
 slab_end-end-requires : tie.Need-slab_end-end-requires invariant_loop decreases_loop
 slab_end-end-requires c κs = search rules
@@ -117,11 +117,11 @@ shape_of-body-in_default c = search rules
 
 returns-in_default : tie.Need-returns-in_default invariant_loop decreases_loop
 returns-in_default c =
-    let t = c.before.before in
-    let s = t.before.before.before.before.before in
+    let t = c.before in
+    let s = t.before.before.before.before in
     let a = s.args in
     let is = slab_untold a.body.now a.mark [] a.class a.used a.off t.slab_end-end.ensures
-    (ap scan_answer c.enum_told-1.given.1) in
+    (ap scan_answer c.in_default.is) in
     record {
       unsound = λ free counts.
           unsound_slab (book_of a.body.now a.heads.now a.mark free counts) a.key a.class a.used a.off s.requires.stands
@@ -139,7 +139,7 @@ loop-i-init c =
     let s = start k in
     let a = s.args in (
       put_none a.body.now a.heads.now a.mark a.key a.fks.now a.from (Slab a.class a.used a.off)
-          s.pre.left s.pre.stands,
+          s.requires.left s.requires.stands,
       begins k,
     )
 
@@ -180,7 +180,7 @@ grow_slab-requires c κs =
     let stands = block_stands a.class a.off a.mark known.stands in
     let holds = stays_holds a.class (l.loop-i.count + 1) _ (takes e).holds in
     record {
-      inside = omega (arith, size l, stands.ends, (from l).pre.within, (put l).body_long);
+      inside = omega (arith, size l, stands.ends, (from l).requires.within, (put l).body_long);
       few = omega (arith, known.used_to_256);
       fits = omega (arith, size l, holds.2, (takes e).form);
     }
@@ -191,7 +191,7 @@ overflow_add-count c = omega (arith, (sound (loc c.before.before.before.before))
 put_head-requires : tie.Need-put_head-requires invariant_loop decreases_loop
 put_head-requires c κs =
     let l = loc c.before.before.before.before.before in
-    omega (arith, (from l).pre.keyed, (put l).heads_long)
+    omega (arith, (from l).requires.keyed, (put l).heads_long)
 
 overflow_add-at : tie.Need-overflow_add-at invariant_loop decreases_loop
 overflow_add-at c =
@@ -216,10 +216,10 @@ loop-i-preserved c =
     let e = g.before.before in
     let l = loc e in
     let s = from l in
-    let long : length g.grow_slab.new.0 ≡ length l.loop-i.body = search rules in
+    let long : length g.grow_slab.new.body ≡ length l.loop-i.body = search rules in
     let more : l.loop-i.i < length s.args.fks.now = e.before.before.before.loop-i-test.true in
-    put_slab s.args.class l.loop-i.count s.args.off s.pre.keyed s.pre.within (put l) (ends l) more (takes e)
-    (sized l).slab_bytes-size.result (size l) g.grow_slab.new.0 h.put_head.new.0 g.grow_slab.ensures long
+    put_slab s.args.class l.loop-i.count s.args.off s.requires.keyed s.requires.within (put l) (ends l) more (takes e)
+    (sized l).slab_bytes-size.result (size l) g.grow_slab.new.body h.put_head.new.heads g.grow_slab.ensures long
     h.put_head.ensures
 
 shape_of-body : tie.Need-shape_of-body invariant_loop decreases_loop

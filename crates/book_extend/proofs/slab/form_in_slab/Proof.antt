@@ -45,7 +45,7 @@ returns-then-not-stays c =
       λ some. absurd (omega (arith, some)),
       λ none above low.
           ap (λ (len : ℕ). stays a.class (a.used + 1) (a.taken + len)) (sym t.before.uleb128_len-len.ensures)
-          ∙ sym t.stays.ensures ∙ not-true _ c.if-not-stays.true,
+          ∙ sym t.stays.ensures ∙ not-true _ c.if-not-stays.true-raw,
     )
 
 returns : tie.Need-returns
@@ -56,7 +56,7 @@ returns c =
         above = omega (arith, u.before.before.if-n-fk.false);
         low = omega (arith, u.before.if-n-ge-NUMBER_RANGE.false);
         form = u.uleb128_len-len.ensures;
-        holds = sym t.stays.ensures ∙ not-false _ c.if-not-stays.false;
+        holds = sym t.stays.ensures ∙ not-false _ c.if-not-stays.false-raw;
       },
       λ none above low. absurd (omega (arith, none, u.uleb128_len-len.ensures, len_pos ((start u).args.n - (start u).args.fk))),
     )

@@ -19,9 +19,9 @@ use Rattle.book_keys.proofs.chain.chain_end.Statement.{statement}
 use Rattle.book_keys.proofs.chain.chain_end.Tie as tie
 
 -- the last page's header was read
-module _ (c : tie.In-Header-2) where
+module _ (c : tie.In-Header) where
   abbrev at : tie.Start
-  at = c.before.before.before.before
+  at = c.before.before.before
 
   abbrev s : Ground
   s = body_ground at.args.body.now at.args.mark
@@ -33,23 +33,23 @@ module _ (c : tie.In-Header-2) where
   last = at.args.last
 
   abbrev head : Last
-  head = record { first = c.header-1.given.0.0; creates = c.header-1.given.0.1.0 }
+  head = record { first = c.in-Header.first; creates = c.in-Header.creates }
 
   is : last_at s last ≡ accepted head
-  is = was_sound _ (sym c.before.before.last_page-header.ensures ∙ ap last_page_answer c.header-1.given.1)
+  is = was_sound _ (sym c.before.last_page-header.ensures ∙ ap last_page_answer c.in-Header.is)
 
 -- the chain was walked
-module _ (c : tie.In-Pages-2) where
-  abbrev told : tie.In-Header-2
-  told = c.before.before.before.before
+module _ (c : tie.In-Pages) where
+  abbrev told : tie.In-Header
+  told = c.before.before
 
   abbrev end : Walked
-  end = record { length = c.walked-1.given.0.0; pages = c.walked-1.given.0.1.0; padded = c.walked-1.given.0.1.1.0 }
+  end = record { length = c.in-Pages.length; pages = c.in-Pages.pages; padded = c.in-Pages.padded }
 
   chain : (w : Chain) × (soundly (walk ((s told).mark / page_size) (s told) (last told) 0 (head told).first) ≡ accepted w)
       × (walked_from (asked told) 0 0 0 w ≡ end)
   chain =
-      was_accepted (walked_from (asked told) 0 0 0) _ (sym c.before.before.walk_pages-walked.ensures ∙ ap walk_answer c.walked-1.given.1)
+      was_accepted (walked_from (asked told) 0 0 0) _ (sym c.before.walk_pages-walked.ensures ∙ ap walk_answer c.in-Pages.is)
 
   walks : walk ((s told).mark / page_size) (s told) (last told) 0 (head told).first ≡ accepted chain.0
   walks = was_sound _ chain.1
@@ -74,8 +74,8 @@ enum_told-1 c = search rules
 
 returns-in_default : tie.Need-returns-in_default
 returns-in_default c =
-    let a = c.before.before.before.before.args in
-    let bad = was_unsound _ (sym c.before.before.last_page-header.ensures ∙ ap last_page_answer c.enum_told-1.given.1) in
+    let a = c.before.before.before.args in
+    let bad = was_unsound _ (sym c.before.last_page-header.ensures ∙ ap last_page_answer c.in_default.is) in
     turned_back (chain_end_of a.counted) _ (chain_no (body_ground a.body.now a.mark) a.last bad.1)
 
 walk_pages-walked-requires : tie.Need-walk_pages-walked-requires
@@ -89,9 +89,9 @@ enum_told-in_default-walked c = search rules
 
 returns-in_default-walked : tie.Need-returns-in_default-walked
 returns-in_default-walked c =
-    let d = c.before.before.before.before in
-    let stop = was_refused (walked_from (asked d) 0 0 0) _ (sym c.before.before.walk_pages-walked.ensures
-    ∙ ap walk_answer c.enum_told-in_default-walked-1.given.1) in
+    let d = c.before.before in
+    let stop = was_refused (walked_from (asked d) 0 0 0) _ (sym c.before.walk_pages-walked.ensures
+    ∙ ap walk_answer c.in_default-walked.is) in
     turned_back (chain_end_of (asked d)) _ (chain_unwalked (s d) (last d) (head d) (is d) (was_unsound _ stop).1)
 
 total_good-requires : tie.Need-total_good-requires
@@ -99,15 +99,15 @@ total_good-requires c κs = search rules
 
 returns-then-not-total_good : tie.Need-returns-then-not-total_good
 returns-then-not-total_good c =
-    let w = c.before.before.before in
+    let w = c.before.before in
     let d = told w in
     turned_back (chain_end_of (asked d)) _
     (chain_other (s d) (last d) (head d) (is d) (chain w).0 (walks w)
-    (ap (total_good (head d).creates) (length_is w) ∙ sym c.before.total_good.ensures ∙ not-true _ c.if-not-total_good.true))
+    (ap (total_good (head d).creates) (length_is w) ∙ sym c.before.total_good.ensures ∙ not-true _ c.if-not-total_good.true-raw))
 
 returns : tie.Need-returns
 returns c =
-    let w = c.before.before.before in
+    let w = c.before.before in
     let d = told w in
     let k = (chain w).0 in
     ap (λ (f : ℕ). accepted (record { first = f; length = (end w).length; pages = (end w).pages; padded = (end w).padded }))
@@ -120,7 +120,7 @@ returns c =
     (sym (padded_is w))
     ∙ let_through (chain_end_of (asked d)) _
     (chain_yes (s d) (last d) (head d) (is d) k (walks w)
-    (ap (total_good (head d).creates) (length_is w) ∙ sym c.before.total_good.ensures ∙ not-false _ c.if-not-total_good.false))
+    (ap (total_good (head d).creates) (length_is w) ∙ sym c.before.total_good.ensures ∙ not-false _ c.if-not-total_good.false-raw))
 
 pub chain_end_spec : {M : Type 1} → statement M
 chain_end_spec =

@@ -56,7 +56,7 @@ module _ (c : tie.After-page_into-got invariant_loop decreases_loop) where
   off = turn.before.loop-pages.off
 
   abbrev part : List ℕ
-  part = c.page_into-got.new.1.1.1.0
+  part = c.page_into-got.new.out
 
   room : length (lent out at) ≡ length out - at
   room = length_lent out at turn.before.loop-pages.invariant.1
@@ -70,7 +70,7 @@ module _ (c : tie.After-page_into-got invariant_loop decreases_loop) where
   reads p e = c.page_into-got.ensures.reads p (ap (λ (n : ℕ). page_into n s off) room ∙ e)
 
   left : most - turn.before.loop-pages.pages ≡ suc (most - (turn.before.loop-pages.pages + 1))
-  left = omega (arith, turn.loop-pages-test.taken)
+  left = omega (arith, turn.loop-pages-test.true)
 
   -- the chain that the whole walk gives, and what is left of it
   filling : (w : Chain) → walk most s start.args.last 0 start.args.first ≡ accepted w
@@ -80,17 +80,17 @@ module _ (c : tie.After-page_into-got invariant_loop decreases_loop) where
       subst (λ (k : ℕ). Filling k s start.args.last start.args.out.now w out at off) left (turn.before.loop-pages.invariant.3 w e h)
 
 -- a page was read
-module _ (c : tie.In-Filled-2 invariant_loop decreases_loop) where
+module _ (c : tie.In-Filled invariant_loop decreases_loop) where
   abbrev back : tie.After-page_into-got invariant_loop decreases_loop
-  back = c.before.before.before.before
+  back = c.before.before.before
 
   abbrev told : FillTold
-  told = record { count = c.got-1.given.0.0; next = c.got-1.given.0.1.0 }
+  told = record { count = c.in-Filled.count; next = c.in-Filled.next }
 
-  fits : at back + c.got-1.given.0.0 ≤ length (out back)
+  fits : at back + c.in-Filled.count ≤ length (out back)
   fits = omega (
     arith,
-    back.page_into-got.ensures.within told (ap fill_answer c.got-1.given.1),
+    back.page_into-got.ensures.within told (ap fill_answer c.in-Filled.is),
     room back,
     (turn back).before.loop-pages.invariant.1,
   )
@@ -106,7 +106,7 @@ module _ (c : tie.In-Filled-2 invariant_loop decreases_loop) where
     told_is : (length next.page.numbers ≡ told.count) × (next_off (page_at (s back) (off back)) ≡ told.next)
     told_is =
         read_told (page_at (s back) (off back)) next.page told
-        (accepted_inj (sym (reads back next.page next.read).0 ∙ ap fill_answer c.got-1.given.1))
+        (accepted_inj (sym (reads back next.page next.read).0 ∙ ap fill_answer c.in-Filled.is))
 
     wrote : put_back (out back) (at back) (part back) ≡ overwrite (out back) (at back) next.page.numbers
     wrote =
@@ -150,8 +150,8 @@ shape_of-out-in_default c = search rules
 
 returns-in_default : tie.Need-returns-in_default invariant_loop decreases_loop
 returns-in_default c k e first h =
-    let b = c.before.before.before.before in
-    let stop = ap fill_answer c.enum_told-1.given.1 in
+    let b = c.before.before.before in
+    let stop = ap fill_answer c.in_default.is in
     let walks = chain_walks (s b) (start b).args.last (start b).args.first k (was_sound _ e) first in
     let next =
     fill_turn (s b) (start b).args.last (start b).args.out.now k (out b) (at b) (off b) (most b - ((turn b).before.loop-pages.pages + 1))
@@ -163,13 +163,13 @@ shape_of-out-then-off-last c = search rules
 
 returns-then-off-last : tie.Need-returns-then-off-last invariant_loop decreases_loop
 returns-then-off-last c k e first h =
-    let d = c.before.before in
+    let d = c.before in
     let b = back d in
     let walks = chain_walks (s b) (start b).args.last (start b).args.first k (was_sound _ e) first in
     wrote d k walks h ∙ (next d k walks h).ends c.if-off-last.true
 
 overflow_add-at : tie.Need-overflow_add-at invariant_loop decreases_loop
-overflow_add-at c = let h = fits c.before.before in omega arith
+overflow_add-at c = let h = fits c.before in omega arith
 
 overflow_add-pages : tie.Need-overflow_add-pages invariant_loop decreases_loop
 overflow_add-pages c = omega arith
@@ -179,7 +179,7 @@ loop-pages-smaller c = omega arith
 
 loop-pages-preserved : tie.Need-loop-pages-preserved invariant_loop decreases_loop
 loop-pages-preserved c =
-    let d = c.before.before in
+    let d = c.before in
     let b = back d in
     let h = fits d in
     let length-same : length (put_back (out b) (at b) (part b)) ≡ length (out b) =

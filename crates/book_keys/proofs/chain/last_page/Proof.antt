@@ -29,10 +29,10 @@ module _ (c : tie.Else-not-is_page) where
   off = at.args.last
 
   stands : is_block page_class off s.mark ≡ true
-  stands = sym c.before.is_page.ensures ∙ not-false _ c.if-not-is_page.false
+  stands = sym c.before.is_page.ensures ∙ not-false _ c.if-not-is_page.false-raw
 
   inside : off + page_size ≤ length at.args.body.now
-  inside = page_inside s off stands at.args.body.now at.pre
+  inside = page_inside s off stands at.args.body.now at.requires
 
 is_page-requires : tie.Need-is_page-requires
 is_page-requires c κs = search rules
@@ -41,7 +41,7 @@ returns-then-not-is_page : tie.Need-returns-then-not-is_page
 returns-then-not-is_page c =
     let a = c.before.before.before.args in
     sym (soundly_no _ (last_off (body_ground a.body.now a.mark) a.last
-    (sym c.before.is_page.ensures ∙ not-true _ c.if-not-is_page.true)))
+    (sym c.before.is_page.ensures ∙ not-true _ c.if-not-is_page.true-raw)))
 
 overflow_add-start : tie.Need-overflow_add-start
 overflow_add-start c = let h = inside c in omega arith

@@ -30,10 +30,10 @@ module _ (c : tie.Else-not-is_page) where
   off = at.args.off
 
   stands : is_block page_class off s.mark ≡ true
-  stands = sym c.before.is_page.ensures ∙ not-false _ c.if-not-is_page.false
+  stands = sym c.before.is_page.ensures ∙ not-false _ c.if-not-is_page.false-raw
 
   inside : off + page_size ≤ length at.args.body.now
-  inside = page_inside s off stands at.args.body.now at.pre
+  inside = page_inside s off stands at.args.body.now at.requires
 
 is_page-requires : tie.Need-is_page-requires
 is_page-requires c κs = search rules
@@ -43,7 +43,7 @@ returns-then-not-is_page c =
     let a = c.before.before.before.args in
     let s = body_ground a.body.now a.mark in
     turned_back (link_end_of a.counted (page_at s a.off)) _
-    (link_off s a.off a.prev (sym c.before.is_page.ensures ∙ not-true _ c.if-not-is_page.true))
+    (link_off s a.off a.prev (sym c.before.is_page.ensures ∙ not-true _ c.if-not-is_page.true-raw))
 
 overflow_add-start : tie.Need-overflow_add-start
 overflow_add-start c = let h = inside c in omega arith

@@ -29,10 +29,10 @@ module _ (c : tie.Else-not-is_page) where
   off = at.args.off
 
   stands : is_block page_class off s.mark ≡ true
-  stands = sym c.before.is_page.ensures ∙ not-false _ c.if-not-is_page.false
+  stands = sym c.before.is_page.ensures ∙ not-false _ c.if-not-is_page.false-raw
 
   inside : off + page_size ≤ length at.args.body.now
-  inside = page_inside s off stands at.args.body.now at.pre
+  inside = page_inside s off stands at.args.body.now at.requires
 
 is_page-requires : tie.Need-is_page-requires
 is_page-requires c κs = search rules
@@ -42,7 +42,7 @@ returns-then-not-is_page c =
     let a = c.before.before.before.before.args in
     let s = body_ground a.body.now a.mark in
     page_nowhere (page_at s a.off) a.out.now _
-    (into_off (length a.out.now) s a.off (sym c.before.is_page.ensures ∙ not-true _ c.if-not-is_page.true))
+    (into_off (length a.out.now) s a.off (sym c.before.is_page.ensures ∙ not-true _ c.if-not-is_page.true-raw))
 
 overflow_add-start : tie.Need-overflow_add-start
 overflow_add-start c = let h = inside c in omega arith

@@ -34,7 +34,7 @@ count_padded-requires : tie.Need-count_padded-requires
 count_padded-requires c κs = search rules
 
 returns-then-not-counted : tie.Need-returns-then-not-counted
-returns-then-not-counted c = λ s scans taken. sym (asked_no c.before.before.args.counted _ (not-true _ c.if-not-counted.true))
+returns-then-not-counted c = λ s scans taken. sym (asked_no c.before.before.args.counted _ (not-true _ c.if-not-counted.true-raw))
 
 returns : tie.Need-returns
 returns c = λ s scans taken.
@@ -45,7 +45,7 @@ returns c = λ s scans taken.
     page_counted page _ g.get_u16-count.result at.args.taken _ (g.get_u16-count.ensures ∙ field_read page 1 2)
     (part_to_end page o.stream_off-start.result ∙ ap (λ (i : ℕ). drop i page) o.stream_off-start.ensures)
     c.count_padded.ensures s scans taken
-    ∙ sym (asked_yes at.args.counted _ (not-false _ o.before.if-not-counted.false))
+    ∙ sym (asked_yes at.args.counted _ (not-false _ o.before.if-not-counted.false-raw))
 
 pub page_padded_spec : {M : Type 1} → statement M
 page_padded_spec =

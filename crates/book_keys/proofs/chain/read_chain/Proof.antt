@@ -17,9 +17,9 @@ use Rattle.book_keys.proofs.chain.read_chain.Statement.{statement}
 use Rattle.book_keys.proofs.chain.read_chain.Tie as tie
 
 -- the chain is sound
-module _ (c : tie.In-Chain-2) where
+module _ (c : tie.In-Chain) where
   abbrev start : tie.Start
-  start = c.before.before.before.before.before
+  start = c.before.before.before.before
 
   abbrev s : Ground
   s = body_ground start.args.body.now start.args.mark
@@ -27,14 +27,14 @@ module _ (c : tie.In-Chain-2) where
   abbrev told : ChainEndOf
   told =
       record {
-        first = c.got-1.given.0.0;
-        length = c.got-1.given.0.1.0;
-        pages = c.got-1.given.0.1.1.0;
-        padded = c.got-1.given.0.1.1.1.0;
+        first = c.in-Chain.first;
+        length = c.in-Chain.length;
+        pages = c.in-Chain.pages;
+        padded = c.in-Chain.padded;
       }
 
   held : (k : Chain) × (soundly (chain_at s start.args.last) ≡ accepted k) × (chain_end_of true k ≡ told)
-  held = was_accepted (chain_end_of true) _ (sym c.before.before.chain_end-got.ensures ∙ ap chain_answer c.got-1.given.1)
+  held = was_accepted (chain_end_of true) _ (sym c.before.chain_end-got.ensures ∙ ap chain_answer c.in-Chain.is)
 
   size : length held.0.numbers ≡ told.length
   size = ap (λ (x : ChainEndOf). x.length) held.2
@@ -50,15 +50,15 @@ enum_told-1 c = search rules
 
 returns-in_default : tie.Need-returns-in_default
 returns-in_default c =
-    let e = c.before.before in
+    let e = c.before in
     let a = e.before.before.before.args in
-    let stop = was_refused (chain_end_of true) _ (sym e.chain_end-got.ensures ∙ ap chain_answer c.enum_told-1.given.1) in
+    let stop = was_refused (chain_end_of true) _ (sym e.chain_end-got.ensures ∙ ap chain_answer c.in_default.is) in
     read_unsound a.out.now _ _
     (soundly_no _ (content_no_pages (body_ground a.body.now a.mark) a.last (was_unsound _ stop).1)) refl
 
 returns-then-out-length : tie.Need-returns-then-out-length
 returns-then-out-length c =
-    let g = c.before.before in
+    let g = c.before in
     let k = held g in
     read_short (start g).args.out.now _ _ (in_pages k.0)
     (soundly_yes _ (content_pages (s g) (start g).args.last k.0 (was_sound _ k.1)))
@@ -74,7 +74,7 @@ returns : tie.Need-returns
 unfolding if_asked
 returns c =
     let f = c.before.before.before.before in
-    let g = f.before.before in
+    let g = f.before in
     let k = held g in
     let fits : length k.0.numbers ≤ length (start g).args.out.now = omega (arith, f.if-out-length.false, size g) in
     read_listed (start g).args.out.now _ _ (in_pages k.0)

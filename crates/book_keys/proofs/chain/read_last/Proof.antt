@@ -27,15 +27,15 @@ module _ (c : tie.Else-page-ne-SH_PAGE_EXTENT_VER) where
 -- LAST was told, and the extent judged
 module _ (c : tie.After-check_extent-named) where
   abbrev at : tie.Else-page-ne-SH_PAGE_EXTENT_VER
-  at = c.before.before.before.before.before.before.before
+  at = c.before.before.before.before.before
 
-  abbrev told : tie.In-Offset-2
-  told = c.before.before.before.before
+  abbrev told : tie.In-Offset
+  told = c.before.before.before
 
-  last : (is_last_link (link_of (page at)) ≡ true) × (link_offset (link_of (page at)) ≡ told.link-1.given.0.0)
+  last : (is_last_link (link_of (page at)) ≡ true) × (link_offset (link_of (page at)) ≡ told.in-Offset.first)
   last =
-      first_told (page at) at.before.before.before.pre told.link-1.given.0.0
-      (sym told.before.before.sh_page_first_off-link.ensures ∙ ap offset_answer told.link-1.given.1)
+      first_told (page at) at.before.before.before.requires told.in-Offset.first
+      (sym told.before.sh_page_first_off-link.ensures ∙ ap offset_answer told.in-Offset.is)
 
   is : last_read (page at) ≡ and_then (extent_named (extent_base_of (page at)) (extent_count_of (page at))) (λ e. accepted (last_of_page (page at)))
   is = last_extent (page at) (extent at) last.0
@@ -65,11 +65,11 @@ enum_told-1 c = search rules
 
 returns-in_default : tie.Need-returns-in_default
 returns-in_default c =
-    let d = c.before.before.before in
+    let d = c.before.before in
     let p = page d in
     sym (soundly_no _ (last_none p (extent d)
-    (first_untold p d.before.before.before.requires (sym c.before.before.sh_page_first_off-link.ensures
-    ∙ ap offset_answer c.enum_told-1.given.1))))
+    (first_untold p d.before.before.before.requires (sym c.before.sh_page_first_off-link.ensures
+    ∙ ap offset_answer c.in_default.is))))
 
 get_u64-base-requires : tie.Need-get_u64-base-requires
 get_u64-base-requires c κs = search rules
@@ -88,19 +88,19 @@ enum_told-in_default-named c = search rules
 
 returns-in_default-named : tie.Need-returns-in_default-named
 returns-in_default-named c =
-    let d = c.before.before in
-    sym (soundly_no _ (is d ∙ then_no _ _ (sym (named d) ∙ ap done_answer c.enum_told-in_default-named-1.given.1)))
+    let d = c.before in
+    sym (soundly_no _ (is d ∙ then_no _ _ (sym (named d) ∙ ap done_answer c.in_default-named.is)))
 
 get_u32-creates-requires : tie.Need-get_u32-creates-requires
 get_u32-creates-requires c κs = search rules
 
 returns : tie.Need-returns
 returns c =
-    let d = c.before.before.before in
+    let d = c.before.before in
     let p = page (at d) in
-    ap (λ (n : ℕ). accepted (record { first = (told d).link-1.given.0.0; creates = n })) (c.get_u32-creates.ensures ∙ field_read p 20 4)
+    ap (λ (n : ℕ). accepted (record { first = (told d).in-Offset.first; creates = n })) (c.get_u32-creates.ensures ∙ field_read p 20 4)
     ∙ ap (λ (f : ℕ). accepted (record { first = f; creates = (last_of_page p).creates })) (sym (last d).1)
-    ∙ sym (soundly_yes _ (is d ∙ then_yes _ _ (sym (named d) ∙ ap done_answer c.before.enum_told-in-Done-1.given.1)))
+    ∙ sym (soundly_yes _ (is d ∙ then_yes _ _ (sym (named d) ∙ ap done_answer c.before.in-Done.is)))
 
 pub read_last_spec : {M : Type 1} → statement M
 read_last_spec =

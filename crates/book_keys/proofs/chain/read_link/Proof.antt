@@ -27,18 +27,18 @@ use Rattle.book_keys.proofs.chain.read_link.Tie as tie
 -- the page scans
 module _ (c : tie.After-sound_last) where
   abbrev at : tie.Start
-  at = c.before.before.before.before.before.before
+  at = c.before.before.before.before
 
   abbrev page : List ℕ
   page = at.args.page.now
 
   abbrev end : End
-  end = record { taken = c.before.before.got-1.given.0.0; last = c.before.before.got-1.given.0.1.0 }
+  end = record { taken = c.before.in-Scanned.taken; last = c.before.in-Scanned.fk }
 
   got : (s : Scan) × (page_scan page ≡ accepted s) × (end_from 0 s ≡ end)
   got =
       was_accepted (end_from 0) (page_scan page)
-      (sym c.before.before.before.before.sh_page_stream_tail-got.ensures ∙ ap scan_answer c.before.before.got-1.given.1)
+      (sym c.before.before.sh_page_stream_tail-got.ensures ∙ ap scan_answer c.before.in-Scanned.is)
 
   last_is : sound_last (last_from 0 got.0.numbers) ≡ c.sound_last.result
   last_is = ap (λ (e : End). sound_last e.last) got.2 ∙ sym c.sound_last.ensures
@@ -46,7 +46,7 @@ module _ (c : tie.After-sound_last) where
 -- its last number can be
 module _ (c : tie.Else-not-sound_last) where
   sound : sound_last (last_from 0 (got c.before).0.numbers) ≡ true
-  sound = last_is c.before ∙ not-false _ c.if-not-sound_last.false
+  sound = last_is c.before ∙ not-false _ c.if-not-sound_last.false-raw
 
   first : (len : ℕ) × (read_uleb (stream_of (page c.before))
       ≡ accepted (record { value = get_or (got c.before).0.numbers 0 0; len = len }))
@@ -65,24 +65,24 @@ module _ (c : tie.After-read_uleb128-form) where
       ∙ ap (λ (o : ℕ). answered number_read (read_uleb (drop o (page back.before)))) c.before.before.stream_off-start.ensures
       ∙ answered_yes number_read _ (first back).1
 
-module _ (c : tie.In-Value-2) where
+module _ (c : tie.In-Value) where
   abbrev seen : tie.After-read_uleb128-form
-  seen = c.before.before
+  seen = c.before
 
-  value_is : c.form-1.given.0.0 ≡ get_or (got (back seen).before).0.numbers 0 0
-  value_is = ap (λ (r : NumberRead). r.value) (accepted_inj (sym (ap read_uleb_answer c.form-1.given.1) ∙ read seen))
+  value_is : c.in-Value.value ≡ get_or (got (back seen).before).0.numbers 0 0
+  value_is = ap (λ (r : NumberRead). r.value) (accepted_inj (sym (ap read_uleb_answer c.in-Value.is) ∙ read seen))
 
 -- its link was read
 module _ (c : tie.After-sh_page_read_packed-link) where
-  abbrev form : tie.In-Value-2
-  form = c.before.before.before
+  abbrev form : tie.In-Value
+  form = c.before.before
 
   abbrev start : tie.After-sound_last
   start = (back (seen form)).before
 
   link : link_answer c.sh_page_read_packed-link.result
       ≡ accepted (record { last = is_last_link (link_of (page start)); off = link_offset (link_of (page start)) })
-  link = c.sh_page_read_packed-link.ensures ∙ sym (read_link_lem (page start) (at start).pre (link_of (page start)) refl)
+  link = c.sh_page_read_packed-link.ensures ∙ sym (read_link_lem (page start) (at start).requires (link_of (page start)) refl)
 
   yes_read : link_read (at start).args.prev (page start) ≡ accepted (got start).0
   yes_read =
@@ -104,9 +104,9 @@ enum_told-1 c = search rules
 
 returns-in_default : tie.Need-returns-in_default
 returns-in_default c =
-    let a = c.before.before.before.before.args in
+    let a = c.before.before.before.args in
     turned_back (link_end_of a.counted a.page.now) _ (link_no a.page.now a.prev
-    (was_refused (end_from 0) _ (sym c.before.before.sh_page_stream_tail-got.ensures ∙ ap scan_answer c.enum_told-1.given.1)))
+    (was_refused (end_from 0) _ (sym c.before.sh_page_stream_tail-got.ensures ∙ ap scan_answer c.in_default.is)))
 
 sound_last-requires : tie.Need-sound_last-requires
 sound_last-requires c κs = search rules
@@ -115,7 +115,7 @@ returns-then-not-sound_last : tie.Need-returns-then-not-sound_last
 returns-then-not-sound_last c =
     let d = c.before in
     turned_back (link_end_of (at d).args.counted (page d)) _ (link_unsound (page d) (at d).args.prev (got d).0 (got d).1
-    (last_is d ∙ not-true _ c.if-not-sound_last.true))
+    (last_is d ∙ not-true _ c.if-not-sound_last.true-raw))
 
 stream_off-start-requires : tie.Need-stream_off-start-requires
 stream_off-start-requires c κs = search rules
@@ -142,11 +142,11 @@ enum_told-in_default-form : tie.Need-enum_told-in_default-form
 enum_told-in_default-form c = search rules
 
 returns-in_default-form : tie.Need-returns-in_default-form
-returns-in_default-form c = absurd (refused≢accepted (sym (ap read_uleb_answer c.enum_told-in_default-form-1.given.1) ∙ read c.before.before))
+returns-in_default-form c = absurd (refused≢accepted (sym (ap read_uleb_answer c.in_default-form.is) ∙ read c.before))
 
 returns-then-value-prev : tie.Need-returns-then-value-prev
 returns-then-value-prev c =
-    let f = c.before.before in
+    let f = c.before in
     let d = (back (seen f)).before in
     let v = value_is f in
     turned_back (link_end_of (at d).args.counted (page d)) _
@@ -162,7 +162,7 @@ enum_told-in_default-link : tie.Need-enum_told-in_default-link
 enum_told-in_default-link c = search rules
 
 returns-in_default-link : tie.Need-returns-in_default-link
-returns-in_default-link c = absurd (refused≢accepted (sym (ap link_answer c.enum_told-in_default-link-1.given.1) ∙ link c.before.before))
+returns-in_default-link c = absurd (refused≢accepted (sym (ap link_answer c.in_default-link.is) ∙ link c.before))
 
 get_u16-count-requires : tie.Need-get_u16-count-requires
 get_u16-count-requires c κs = search rules
@@ -172,24 +172,24 @@ overflow_cast-count c = search rules
 
 page_padded-requires : tie.Need-page_padded-requires
 page_padded-requires c κs =
-    let d = start c.before.before.before.before in
+    let d = start c.before.before in
     let taken : (got d).0.taken ≡ (end d).taken = ap (λ (e : End). e.taken) (got d).2 in
-    ((at d).pre, omega (arith, (page_read (page d) (got d).0 (got d).1).taken_fits, taken))
+    ((at d).requires, omega (arith, (page_read (page d) (got d).0 (got d).1).taken_fits, taken))
 
 returns : tie.Need-returns
 returns p =
     let c = p.before in
-    let l = c.before.before in
-    let k = c.before.before.before.before in
+    let l = c.before in
+    let k = c.before.before in
     let d = start k in
     let s = (got d).0 in
     let padded : p.page_padded.result ≡ if_asked (at d).args.counted (page_padded (page d)) =
     p.page_padded.ensures s (got d).1 (ap (λ (e : End). e.taken) (got d).2) in
-    let named = accepted_inj (sym (ap link_answer l.link-1.given.1) ∙ link k) in
+    let named = accepted_inj (sym (ap link_answer l.in-Link.is) ∙ link k) in
     let counted : c.get_u16-count.result ≡ length s.numbers = c.get_u16-count.ensures ∙ field_read (page d) 1 2
     ∙ sym (page_read (page d) s (got d).1).counted in
-    ap (λ (n : ℕ). accepted (told n (end d).last l.link-1.given.0.0 l.link-1.given.0.1.0 p.page_padded.result)) counted
-    ∙ ap (λ (e : End). accepted (told (length s.numbers) e.last l.link-1.given.0.0 l.link-1.given.0.1.0
+    ap (λ (n : ℕ). accepted (told n (end d).last l.in-Link.last l.in-Link.next p.page_padded.result)) counted
+    ∙ ap (λ (e : End). accepted (told (length s.numbers) e.last l.in-Link.last l.in-Link.next
     p.page_padded.result)) (sym (got d).2)
     ∙ ap (λ (w : Link). accepted (told (length s.numbers) (last_from 0 s.numbers) w.last w.off p.page_padded.result)) named
     ∙ ap (λ (n : ℕ). accepted (told (length s.numbers) (last_from 0 s.numbers) (is_last_link (link_of (page d)))

@@ -19,20 +19,20 @@ use Rattle.book_keys.proofs.chain.read_tail.Statement.{statement}
 use Rattle.book_keys.proofs.chain.read_tail.Tie as tie
 
 -- the header was read
-module _ (c : tie.In-Header-2) where
+module _ (c : tie.In-Header) where
   abbrev page : List ℕ
-  page = c.before.before.before.before.args.page.now
+  page = c.before.before.before.args.page.now
 
   abbrev head : Last
-  head = record { first = c.header-1.given.0.0; creates = c.header-1.given.0.1.0 }
+  head = record { first = c.in-Header.first; creates = c.in-Header.creates }
 
   is : last_read page ≡ accepted head
-  is = was_sound _ (sym c.before.before.read_last-header.ensures ∙ ap last_page_answer c.header-1.given.1)
+  is = was_sound _ (sym c.before.read_last-header.ensures ∙ ap last_page_answer c.in-Header.is)
 
 -- the page was scanned
 module _ (c : tie.After-sh_page_stream_tail-got) where
-  abbrev at : tie.In-Header-2
-  at = c.before.before
+  abbrev at : tie.In-Header
+  at = c.before
 
   abbrev scanned : Answer Scan
   scanned = page_scan (page at)
@@ -43,13 +43,13 @@ module _ (c : tie.After-sh_page_stream_tail-got) where
 -- it scans
 module _ (c : tie.After-sound_last) where
   abbrev back : tie.After-sh_page_stream_tail-got
-  back = c.before.before.before.before
+  back = c.before.before
 
   abbrev end : End
-  end = record { taken = c.before.before.got-1.given.0.0; last = c.before.before.got-1.given.0.1.0 }
+  end = record { taken = c.before.in-Scanned.taken; last = c.before.in-Scanned.last }
 
   end_is : answered (end_from 0) (scanned back) ≡ accepted end
-  end_is = sym back.sh_page_stream_tail-got.ensures ∙ ap scan_answer c.before.before.got-1.given.1
+  end_is = sym back.sh_page_stream_tail-got.ensures ∙ ap scan_answer c.before.in-Scanned.is
 
 read_last-header-requires : tie.Need-read_last-header-requires
 read_last-header-requires c κs = search rules
@@ -62,8 +62,8 @@ enum_told-1 c = search rules
 
 returns-in_default : tie.Need-returns-in_default
 returns-in_default c =
-    let bad = was_unsound _ (sym c.before.before.read_last-header.ensures ∙ ap last_page_answer c.enum_told-1.given.1) in
-    turned_back tail_end_of _ (tail_no c.before.before.before.before.args.page.now bad.1)
+    let bad = was_unsound _ (sym c.before.read_last-header.ensures ∙ ap last_page_answer c.in_default.is) in
+    turned_back tail_end_of _ (tail_no c.before.before.before.args.page.now bad.1)
 
 sh_page_stream_tail-got-requires : tie.Need-sh_page_stream_tail-got-requires
 sh_page_stream_tail-got-requires c κs = search rules
@@ -76,10 +76,10 @@ enum_told-in_default-got c = search rules
 
 returns-in_default-got : tie.Need-returns-in_default-got
 returns-in_default-got c =
-    let d = c.before.before in
+    let d = c.before in
     turned_back tail_end_of _
     (fine d ∙ then_no (last_sound (scanned d)) _
-    (end_refused (scanned d) (sym d.sh_page_stream_tail-got.ensures ∙ ap scan_answer c.enum_told-in_default-got-1.given.1)))
+    (end_refused (scanned d) (sym d.sh_page_stream_tail-got.ensures ∙ ap scan_answer c.in_default-got.is)))
 
 sound_last-requires : tie.Need-sound_last-requires
 sound_last-requires c κs = search rules
@@ -90,13 +90,13 @@ returns-then-not-sound_last c =
     let b = back d in
     turned_back tail_end_of _
     (fine b ∙ then_no (last_sound (scanned b)) _
-    (end_unsound (scanned b) (end d) (end_is d) (sym d.sound_last.ensures ∙ not-true _ c.if-not-sound_last.true)))
+    (end_unsound (scanned b) (end d) (end_is d) (sym d.sound_last.ensures ∙ not-true _ c.if-not-sound_last.true-raw)))
 
 returns : tie.Need-returns
 returns c =
     let d = c.before in
     let b = back d in
-    let got = end_sound (scanned b) (end d) (end_is d) (sym d.sound_last.ensures ∙ not-false _ c.if-not-sound_last.false) in
+    let got = end_sound (scanned b) (end d) (end_is d) (sym d.sound_last.ensures ∙ not-false _ c.if-not-sound_last.false-raw) in
     ap (λ (e : End). accepted (record { taken = e.taken; fk = e.last; first = (head (at b)).first; creates = (head (at b)).creates }))
     (sym got.3)
     ∙ let_through tail_end_of _ (fine b ∙ then_yes (last_sound (scanned b)) _ got.2)

@@ -60,24 +60,24 @@ module _ (t : tie.In-loop-pages invariant_loop decreases_loop) where
   padded = t.before.loop-pages.padded
 
 -- the page was read
-module _ (c : tie.In-Page-2 invariant_loop decreases_loop) where
+module _ (c : tie.In-Page invariant_loop decreases_loop) where
   abbrev turn : tie.In-loop-pages invariant_loop decreases_loop
-  turn = c.before.before.before
+  turn = c.before.before
 
   abbrev end : LinkEndOf
   end =
       record {
-        count = c.got-1.given.0.0;
-        fk = c.got-1.given.0.1.0;
-        last = c.got-1.given.0.1.1.0;
-        next = c.got-1.given.0.1.1.1.0;
-        padded = c.got-1.given.0.1.1.1.1.0;
+        count = c.in-Page.count;
+        fk = c.in-Page.fk;
+        last = c.in-Page.end;
+        next = c.in-Page.next;
+        padded = c.in-Page.more;
       }
 
   page : (p : Scan) × (soundly (link_scan (s turn) (prev turn) (off turn)) ≡ accepted p)
       × (link_end_of (asked turn) (page_at (s turn) (off turn)) p ≡ end)
-  page = was_accepted (link_end_of (asked turn) (page_at (s turn) (off turn))) _ (sym c.before.before.link_end-got.ensures
-      ∙ ap link_end_answer c.got-1.given.1)
+  page = was_accepted (link_end_of (asked turn) (page_at (s turn) (off turn))) _ (sym c.before.link_end-got.ensures
+      ∙ ap link_end_answer c.in-Page.is)
 
   is : link_scan (s turn) (prev turn) (off turn) ≡ accepted page.0
   is = was_sound _ page.1
@@ -116,38 +116,38 @@ enum_told-1 c = search rules
 
 returns-in_default : tie.Need-returns-in_default invariant_loop decreases_loop
 returns-in_default c =
-    let t = c.before.before.before in
+    let t = c.before.before in
     told_refused (asked t) (count t) (pages t) (padded t) (most t) (s t) (at t).args.last (prev t) (off t) t.loop-pages-test.true
-    (was_refused (link_end_of (asked t) (page_at (s t) (off t))) _ (sym c.before.before.link_end-got.ensures
-    ∙ ap link_end_answer c.enum_told-1.given.1))
+    (was_refused (link_end_of (asked t) (page_at (s t) (off t))) _ (sym c.before.link_end-got.ensures
+    ∙ ap link_end_answer c.in_default.is))
     ∙ t.before.loop-pages.invariant.2
 
 overflow_add-length : tie.Need-overflow_add-length invariant_loop decreases_loop
-overflow_add-length c = let h = few c.before in omega arith
+overflow_add-length c = let h = few c in omega arith
 
 overflow_add-padded : tie.Need-overflow_add-padded invariant_loop decreases_loop
-overflow_add-padded c = let h = few_padded c.before in omega arith
+overflow_add-padded c = let h = few_padded c in omega arith
 
 overflow_add-pages : tie.Need-overflow_add-pages invariant_loop decreases_loop
 overflow_add-pages c = omega arith
 
 returns-then-off-last : tie.Need-returns-then-off-last invariant_loop decreases_loop
 returns-then-off-last c =
-    let d = c.before.before in
+    let d = c.before in
     let t = turn d in
     ap (λ (n : ℕ). accepted (record { length = count t + n; pages = pages t + 1; padded = padded t + (end d).padded })) (sym (count_is d))
     ∙ ap (λ (n : ℕ). accepted (record { length = count t + length (page d).0.numbers; pages = pages t + 1; padded = padded t + n }))
     (sym (padded_is d))
-    ∙ told_last (asked t) (count t) (pages t) (padded t) (most t) (s t) (at t).args.last (prev t) (off t) t.loop-pages-test.taken
+    ∙ told_last (asked t) (count t) (pages t) (padded t) (most t) (s t) (at t).args.last (prev t) (off t) t.loop-pages-test.true
     (page d).0 (is d)
     c.if-off-last.true
     ∙ t.before.loop-pages.invariant.2
 
 returns-then-end : tie.Need-returns-then-end invariant_loop decreases_loop
 returns-then-end c =
-    let d = c.before.before.before in
+    let d = c.before.before in
     let t = turn d in
-    told_flagged (asked t) (count t) (pages t) (padded t) (most t) (s t) (at t).args.last (prev t) (off t) t.loop-pages-test.taken
+    told_flagged (asked t) (count t) (pages t) (padded t) (most t) (s t) (at t).args.last (prev t) (off t) t.loop-pages-test.true
     (page d).0 (is d)
     c.before.if-off-last.false
     (ap (λ (e : LinkEndOf). e.last) (page d).2 ∙ c.if-end.true)
@@ -158,11 +158,11 @@ loop-pages-smaller c = omega arith
 
 loop-pages-preserved : tie.Need-loop-pages-preserved invariant_loop decreases_loop
 loop-pages-preserved c =
-    let d = c.before.before.before in
+    let d = c.before.before in
     let t = turn d in
     let last = (at t).args.last in
     let more =
-    told_more (asked t) (count t) (pages t) (padded t) (most t) (s t) last (prev t) (off t) t.loop-pages-test.taken (page d).0 (is d)
+    told_more (asked t) (count t) (pages t) (padded t) (most t) (s t) last (prev t) (off t) t.loop-pages-test.true (page d).0 (is d)
     c.before.if-off-last.false
     (ap (λ (e : LinkEndOf). e.last) (page d).2 ∙ c.if-end.false) in (
       omega arith,

@@ -22,10 +22,10 @@ enum_told-1 c = search rules
 
 returns-in_default : tie.Need-returns-in_default
 returns-in_default c =
-    let a = c.before.before.before.before.before.args in
+    let a = c.before.before.before.before.args in
     read_unsound a.out.now _ _
-    (content_nowhere (body_ground a.body.now a.mark) a.word (sym c.before.before.unpack8-got.ensures
-    ∙ ap unpack_answer c.enum_told-1.given.1)) refl
+    (content_nowhere (body_ground a.body.now a.mark) a.word (sym c.before.unpack8-got.ensures
+    ∙ ap unpack_answer c.in_default.is)) refl
 
 read_place-requires : tie.Need-read_place-requires
 read_place-requires c κs = search rules
@@ -35,12 +35,12 @@ shape_of-out c = search rules
 
 returns : tie.Need-returns
 returns c =
-    let g = c.before.before.before.before.before in
-    let a = g.before.before.before.before.before.args in
+    let g = c.before.before.before.before in
+    let a = g.before.before.before.before.args in
     let r = c.before.before.read_place in
-    let told = content_at_lem (body_ground a.body.now a.mark) a.word g.got-1.given.0.0 (sym g.before.before.unpack8-got.ensures
-    ∙ ap unpack_answer g.got-1.given.1) in
-    subst (λ (x : Answer Content). KeyRead (counts_answer r.result) a.out.now r.new.1.1.1.0 x) (sym told) r.ensures
+    let told = content_at_lem (body_ground a.body.now a.mark) a.word g.in-Head.place (sym g.before.unpack8-got.ensures
+    ∙ ap unpack_answer g.in-Head.is) in
+    subst (λ (x : Answer Content). KeyRead (counts_answer r.result) a.out.now r.new.out x) (sym told) r.ensures
 
 pub read_key_spec : {M : Type 1} → statement M
 read_key_spec =

@@ -47,9 +47,9 @@ read_chain-requires c κs = search rules
 
 returns-in-Empty : tie.Need-returns-in-Empty
 returns-in-Empty c =
-    let a = c.before.before.before.before.args in
-    by_place (space_of c.before.before.before.before) _ a.out.now _ c.enum_told-1.given.1
-    (read_listed a.out.now _ _ _ (soundly_yes _ (content_empty (space_of c.before.before.before.before))) _ refl (omega arith)
+    let a = c.before.before.before.args in
+    by_place (space_of c.before.before.before) _ a.out.now _ c.in-Empty.is
+    (read_listed a.out.now _ _ _ (soundly_yes _ (content_empty (space_of c.before.before.before))) _ refl (omega arith)
     (sym (overwrite_nil a.out.now 0)))
 
 shape_of-out-in-Inline : tie.Need-shape_of-out-in-Inline
@@ -57,8 +57,8 @@ shape_of-out-in-Inline c = search rules
 
 returns-in-Inline : tie.Need-returns-in-Inline
 returns-in-Inline c =
-    let t = c.before.before.before.before.before.before.before.before.before in
-    by_place (space_of t) _ t.args.out.now _ c.before.before.before.before.before.place-1.given.1
+    let t = c.before.before.before.before.before.before.before in
+    by_place (space_of t) _ t.args.out.now _ c.before.before.before.before.in-Inline.is
     (c.before.before.read_inline.ensures (space_of t) _)
 
 shape_of-out-in-Slab : tie.Need-shape_of-out-in-Slab
@@ -66,8 +66,8 @@ shape_of-out-in-Slab c = search rules
 
 returns-in-Slab : tie.Need-returns-in-Slab
 returns-in-Slab c =
-    let t = c.before.before.before.before.before.before.before.before.before in
-    by_place (space_of t) _ t.args.out.now _ c.before.before.before.before.before.place-in-Slab-1.given.1
+    let t = c.before.before.before.before.before.before.before in
+    by_place (space_of t) _ t.args.out.now _ c.before.before.before.before.in-Slab.is
     c.before.before.read_stored.ensures
 
 shape_of-out-in-Extent : tie.Need-shape_of-out-in-Extent
@@ -75,8 +75,8 @@ shape_of-out-in-Extent c = search rules
 
 returns-in-Extent : tie.Need-returns-in-Extent
 returns-in-Extent c =
-    let t = c.before.before.before.before.before.before.before.before.before in
-    by_place (space_of t) _ t.args.out.now _ c.before.before.before.before.before.place-in-Extent-1.given.1
+    let t = c.before.before.before.before.before.before.before in
+    by_place (space_of t) _ t.args.out.now _ c.before.before.before.before.in-Extent.is
     c.before.before.read_chain.ensures
 
 pub read_place_spec : {M : Type 1} → statement M

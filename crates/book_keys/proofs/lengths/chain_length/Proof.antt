@@ -31,17 +31,17 @@ enum_told-1 c = search rules
 
 returns-in_default : tie.Need-returns-in_default
 returns-in_default c =
-    let e = c.before.before in
+    let e = c.before in
     let t = e.before.before in
-    let stop = was_refused (chain_end_of false) (soundly (chain t)) (sym e.chain_end-end.ensures ∙ ap chain_answer c.enum_told-1.given.1) in
+    let stop = was_refused (chain_end_of false) (soundly (chain t)) (sym e.chain_end-end.ensures ∙ ap chain_answer c.in_default.is) in
     sym (answered_no length_of _ (soundly_no _ (content_no_pages (s t) t.args.last (was_unsound (chain t) stop).1)))
 
 returns : tie.Need-returns
 returns c =
-    let g = c.before in
-    let e = g.before.before in
+    let g = c in
+    let e = g.before in
     let t = e.before.before in
-    let got = was_accepted (chain_end_of false) (soundly (chain t)) (sym e.chain_end-end.ensures ∙ ap chain_answer g.end-1.given.1) in
+    let got = was_accepted (chain_end_of false) (soundly (chain t)) (sym e.chain_end-end.ensures ∙ ap chain_answer g.in-Chain.is) in
     ap (λ (x : ChainEndOf). accepted x.length) (sym got.2)
     ∙ sym (answered_yes length_of _ (soundly_yes _ (content_pages (s t) t.args.last got.0 (was_sound (chain t) got.1))))
 

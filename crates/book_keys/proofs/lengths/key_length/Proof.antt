@@ -25,22 +25,22 @@ enum_told-1 c = search rules
 
 returns-in_default : tie.Need-returns-in_default
 returns-in_default c =
-    let u = c.before.before in
+    let u = c.before in
     let t = u.before.before in
     sym (answered_no length_of _
-    (content_nowhere (ground_of t) t.args.word (sym u.unpack8-got.ensures ∙ ap unpack_answer c.enum_told-1.given.1)))
+    (content_nowhere (ground_of t) t.args.word (sym u.unpack8-got.ensures ∙ ap unpack_answer c.in_default.is)))
 
 place_length-requires : tie.Need-place_length-requires
 place_length-requires c κs = search rules
 
 returns : tie.Need-returns
 returns c =
-    let g = c.before.before in
-    let u = g.before.before in
+    let g = c.before in
+    let u = g.before in
     let t = u.before.before in
     c.place_length.ensures
     ∙ ap (answered length_of)
-    (sym (content_at_lem (ground_of t) t.args.word g.got-1.given.0.0 (sym u.unpack8-got.ensures ∙ ap unpack_answer g.got-1.given.1)))
+    (sym (content_at_lem (ground_of t) t.args.word g.in-Head.place (sym u.unpack8-got.ensures ∙ ap unpack_answer g.in-Head.is)))
 
 pub key_length_spec : {M : Type 1} → statement M
 key_length_spec = tie.close (tie.spec unpack8-got-requires enum_known-got enum_told-1 returns-in_default place_length-requires returns)

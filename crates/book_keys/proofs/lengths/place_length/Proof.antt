@@ -41,24 +41,24 @@ chain_length-requires c κs = search rules
 
 returns-in-Empty : tie.Need-returns-in-Empty
 returns-in-Empty c =
-    let s = ground_of c.before.before.before in
-    by_place s c.enum_told-1.given.1 (sym (answered_yes length_of _ (soundly_yes _ (content_empty s))))
+    let s = ground_of c.before.before in
+    by_place s c.in-Empty.is (sym (answered_yes length_of _ (soundly_yes _ (content_empty s))))
 
 returns-in-Inline : tie.Need-returns-in-Inline
 returns-in-Inline c =
-    let s = ground_of c.before.before.before in
-    by_place s c.enum_told-in-Inline-1.given.1
-    (sym (answered_yes length_of _ (soundly_yes _ (content_inline s c.enum_told-in-Inline-1.given.0.0 c.enum_told-in-Inline-1.given.0.1.0))))
+    let s = ground_of c.before.before in
+    by_place s c.in-Inline.is
+    (sym (answered_yes length_of _ (soundly_yes _ (content_inline s c.in-Inline.entry c.in-Inline.used))))
 
 returns-in-Slab : tie.Need-returns-in-Slab
 returns-in-Slab c =
-    let p = c.before.before in
-    by_place (ground_of p.before.before.before) p.place-1.given.1 c.slab_length.ensures
+    let p = c.before in
+    by_place (ground_of p.before.before) p.in-Slab.is c.slab_length.ensures
 
 returns-in-Extent : tie.Need-returns-in-Extent
 returns-in-Extent c =
-    let p = c.before.before in
-    by_place (ground_of p.before.before.before) p.place-in-Extent-1.given.1 c.Chain-length.ensures
+    let p = c.before in
+    by_place (ground_of p.before.before) p.in-Extent.is c.chain_length.ensures
 
 pub place_length_spec : {M : Type 1} → statement M
 place_length_spec =

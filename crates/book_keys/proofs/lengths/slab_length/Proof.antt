@@ -32,18 +32,18 @@ enum_told-in_default c = search rules
 
 returns-in_default : tie.Need-returns-in_default
 returns-in_default c =
-    let e = c.before.before in
+    let e = c.before in
     let t = e.before.before in
     let a = t.args in
-    let stop = was_refused (end_from 0) (soundly (scan t)) (sym e.slab_end-end.ensures ∙ ap scan_answer c.enum_told-in_default-1.given.1) in
+    let stop = was_refused (end_from 0) (soundly (scan t)) (sym e.slab_end-end.ensures ∙ ap scan_answer c.in_default.is) in
     sym (answered_no length_of _ (soundly_no _ (content_no_slab (s t) a.class a.used a.off (was_unsound (scan t) stop).1)))
 
 returns : tie.Need-returns
 returns c =
-    let e = c.before.before in
+    let e = c.before in
     let t = e.before.before in
     let a = t.args in
-    let got = was_accepted (end_from 0) (soundly (scan t)) (sym e.slab_end-end.ensures ∙ ap scan_answer c.enum_told-1.given.1) in
+    let got = was_accepted (end_from 0) (soundly (scan t)) (sym e.slab_end-end.ensures ∙ ap scan_answer c.in-Scanned.is) in
     let is : scan t ≡ accepted got.0 = was_sound (scan t) got.1 in
     ap accepted (sym (slab_sound (s t) a.class a.used a.off got.0 is).counted)
     ∙ sym (answered_yes length_of _ (soundly_yes _ (content_slab (s t) a.class a.used a.off got.0 is)))

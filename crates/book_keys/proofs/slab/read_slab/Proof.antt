@@ -33,7 +33,7 @@ module _ (c : tie.After-scan_fk_delta_stream-got) where
   is : slab_read slab used ≡ last_sound scanned
   is =
       slab_by_scan slab used c.before.before.before.before.if-used-gt-SLAB_MOST.false
-      (sym c.before.before.before.get_u16.ensures ∙ c.before.before.if-get_u16-used.false) at.pre
+      (sym c.before.before.before.get_u16.ensures ∙ c.before.before.if-get_u16-used.false) at.requires
 
   ends : scan_answer c.scan_fk_delta_stream-got.result ≡ answered (end_from 0) scanned
   ends = c.scan_fk_delta_stream-got.ensures ∙ ap (λ (bs : List ℕ). answered (end_from 0) (scan used bs)) (part_to_end slab 2)
@@ -41,13 +41,13 @@ module _ (c : tie.After-scan_fk_delta_stream-got) where
 -- it scans
 module _ (c : tie.After-sound_last) where
   abbrev back : tie.After-scan_fk_delta_stream-got
-  back = c.before.before.before.before
+  back = c.before.before
 
   abbrev end : End
-  end = record { taken = c.before.before.got-1.given.0.0; last = c.before.before.got-1.given.0.1.0 }
+  end = record { taken = c.before.in-Scanned.taken; last = c.before.in-Scanned.last }
 
   end_is : answered (end_from 0) (scanned back) ≡ accepted end
-  end_is = sym (ends back) ∙ ap scan_answer c.before.before.got-1.given.1
+  end_is = sym (ends back) ∙ ap scan_answer c.before.in-Scanned.is
 
 returns-then-used-gt-SLAB_MOST : tie.Need-returns-then-used-gt-SLAB_MOST
 returns-then-used-gt-SLAB_MOST c = turned_back (end_from 0) _ (slab_many c.before.before.args.slab.now c.before.before.args.used c.if-used-gt-SLAB_MOST.true)
@@ -81,8 +81,8 @@ enum_told-1 c = search rules
 
 returns-in_default : tie.Need-returns-in_default
 returns-in_default c =
-    let d = c.before.before in
-    turned_back (end_from 0) _ (is d ∙ end_refused (scanned d) (sym (ends d) ∙ ap scan_answer c.enum_told-1.given.1))
+    let d = c.before in
+    turned_back (end_from 0) _ (is d ∙ end_refused (scanned d) (sym (ends d) ∙ ap scan_answer c.in_default.is))
 
 sound_last-requires : tie.Need-sound_last-requires
 sound_last-requires c κs = search rules
@@ -91,12 +91,12 @@ returns-then-not-sound_last : tie.Need-returns-then-not-sound_last
 returns-then-not-sound_last c =
     let d = c.before in
     turned_back (end_from 0) _ (is (back d) ∙ end_unsound (scanned (back d)) (end d) (end_is d)
-    (sym d.sound_last.ensures ∙ not-true _ c.if-not-sound_last.true))
+    (sym d.sound_last.ensures ∙ not-true _ c.if-not-sound_last.true-raw))
 
 returns : tie.Need-returns
 returns c =
     let d = c.before in
-    let got = end_sound (scanned (back d)) (end d) (end_is d) (sym d.sound_last.ensures ∙ not-false _ c.if-not-sound_last.false) in
+    let got = end_sound (scanned (back d)) (end d) (end_is d) (sym d.sound_last.ensures ∙ not-false _ c.if-not-sound_last.false-raw) in
     ap accepted (sym got.3) ∙ let_through (end_from 0) _ (is (back d) ∙ got.2)
 
 pub read_slab_spec : {M : Type 1} → statement M

@@ -37,7 +37,7 @@ module _ (c : tie.After-slab_bytes) where
   off = at.args.off
 
   stands : is_slab class off at.args.mark ≡ true
-  stands = sym c.before.before.slab_stands.ensures ∙ not-false _ c.before.if-not-slab_stands.false
+  stands = sym c.before.before.slab_stands.ensures ∙ not-false _ c.before.if-not-slab_stands.false-raw
 
   size : c.slab_bytes.result ≡ slab_bytes class
   size = slab_size class _ (slab_lies class off at.args.mark stands).0 c.slab_bytes.ensures
@@ -46,7 +46,7 @@ module _ (c : tie.After-slab_bytes) where
   inside =
       let b = block_stands class off at.args.mark (slab_lies class off at.args.mark stands).1 in
       let e = size in
-      omega (arith, b.ends, at.pre)
+      omega (arith, b.ends, at.requires)
 
 slab_stands-requires : tie.Need-slab_stands-requires
 slab_stands-requires c κs = search rules
@@ -55,7 +55,7 @@ returns-then-not-slab_stands : tie.Need-returns-then-not-slab_stands
 returns-then-not-slab_stands c =
     let a = c.before.before.before.before.args in
     let s = body_ground a.body.now a.mark in
-    let stop = slab_no s a.class a.used a.off (sym c.before.slab_stands.ensures ∙ not-true _ c.if-not-slab_stands.true) in
+    let stop = slab_no s a.class a.used a.off (sym c.before.slab_stands.ensures ∙ not-true _ c.if-not-slab_stands.true-raw) in
     read_unsound a.out.now _ _ (soundly_no _ (content_no_slab s a.class a.used a.off stop)) refl
 
 slab_bytes-requires : tie.Need-slab_bytes-requires

@@ -44,7 +44,7 @@ returns c =
     let t = f.before.before.before in
     let a = t.args in
     let told = d.read_short_stream.result in
-    let after = d.read_short_stream.new.1.1.1.0 in
+    let after = d.read_short_stream.new.out in
     short_slab a.slab.now a.used told a.out.now after f.if-used-gt-SLAB_MOST.false (sym g.get_u16.ensures ∙ e.if-get_u16-used.false) t.requires
     (subst (λ (bs : List ℕ). ShortRead told (2 ^ 62) a.out.now after (scan a.used bs)) (part_to_end a.slab.now 2)
     d.read_short_stream.ensures)

@@ -21,10 +21,10 @@ module _ (c : tie.After-slab_bytes) where
   at = c.before.before.before
 
   size : c.slab_bytes.result ≡ slab_bytes at.args.class
-  size = slab_size at.args.class _ at.pre.0 c.slab_bytes.ensures
+  size = slab_size at.args.class _ at.requires.0 c.slab_bytes.ensures
 
   inside : at.args.off + c.slab_bytes.result ≤ length at.args.body.now
-  inside = let e = size in omega (arith, at.pre.1)
+  inside = let e = size in omega (arith, at.requires.1)
 
 slab_bytes-requires : tie.Need-slab_bytes-requires
 slab_bytes-requires c κs = search rules

@@ -34,26 +34,26 @@ module _ (d : tie.After-short_slab-short) where
   out = at.args.out.now
 
   -- one that told 0 left the list
-  kept : d.short_slab-short.result ≤ 0 → d.short_slab-short.last.1.1.0 ≡ out
+  kept : d.short_slab-short.result ≤ 0 → d.short_slab-short.new.out ≡ out
   kept e = short_left d.short_slab-short.result out _ _ d.short_slab-short.ensures e
 
   -- and else it read it
-  tried : 0 < d.short_slab-short.result → Tried slab used d.short_slab-short.result out d.short_slab-short.last.1.1.0
+  tried : 0 < d.short_slab-short.result → Tried slab used d.short_slab-short.result out d.short_slab-short.new.out
   tried h = slab_tried slab used d.short_slab-short.result out _ d.short_slab-short.ensures h
 
 -- the slab was judged, and is sound
-module _ (g : tie.In-Scanned-2) where
+module _ (g : tie.In-Scanned) where
   abbrev judged : tie.After-read_slab-got
-  judged = g.before.before
+  judged = g.before
 
   abbrev try : tie.After-short_slab-short
   try = judged.before.before.before.before
 
   abbrev end : End
-  end = record { taken = g.got-1.given.0.0; last = g.got-1.given.0.1.0 }
+  end = record { taken = g.in-Scanned.taken; last = g.in-Scanned.last }
 
   found : (c : Scan) × (soundly (slab_read (slab try) (used try)) ≡ accepted c) × (end_from 0 c ≡ end)
-  found = was_accepted (end_from 0) _ (sym judged.read_slab-got.ensures ∙ ap scan_answer g.got-1.given.1)
+  found = was_accepted (end_from 0) _ (sym judged.read_slab-got.ensures ∙ ap scan_answer g.in-Scanned.is)
 
   is : slab_read (slab try) (used try) ≡ accepted found.0
   is = was_sound _ found.1
@@ -95,9 +95,9 @@ shape_of-out-in_default c = search rules
 
 returns-in_default : tie.Need-returns-in_default
 returns-in_default c s class off here bytes =
-    let r = c.before.before in
+    let r = c.before in
     let d = r.before.before.before.before in
-    let stop = was_refused (end_from 0) _ (sym r.read_slab-got.ensures ∙ ap scan_answer c.enum_told-1.given.1) in
+    let stop = was_refused (end_from 0) _ (sym r.read_slab-got.ensures ∙ ap scan_answer c.in_default.is) in
     slab_unsound s class (used d) off (slab d) (out d) _ here bytes (was_unsound _ stop).1 (kept d r.before.if-short-gt0.false)
 
 shape_of-out-then-out-used : tie.Need-shape_of-out-then-out-used
@@ -105,7 +105,7 @@ shape_of-out-then-out-used c = search rules
 
 returns-then-out-used : tie.Need-returns-then-out-used
 returns-then-out-used c s class off here bytes =
-    let g = c.before.before in
+    let g = c.before in
     let d = try g in
     let stays = kept d (judged g).before.if-short-gt0.false in
     slab_too_long s class (used d) off (slab d) (out d) _ here bytes (found g).0 (is g)
@@ -116,7 +116,7 @@ fill_slab-requires c κs = search rules
 
 slab_counts-requires-2 : tie.Need-slab_counts-requires-2
 slab_counts-requires-2 c κs =
-    let g = c.before.before.before.before.before.before in
+    let g = c.before.before.before.before.before in
     let d = try g in
     omega (arith, slab_within (slab d) (used d) (found g).0 (is g), size g)
 
@@ -127,7 +127,7 @@ returns : tie.Need-returns
 returns c s class off here bytes =
     let w = c.before.before.before in
     let f = w.before.before in
-    let g = f.before.before in
+    let g = f.before in
     let d = try g in
     let stays = kept d (judged g).before.if-short-gt0.false in
     let counted = slab_counted s class (used d) off (slab d) (out d) (out d) here bytes (found g).0 (is g) in

@@ -44,10 +44,10 @@ module _ (c : tie.Start) where
 -- the book is in shape
 module _ (t : tie.Else-shape_broken) where
   abbrev start : tie.Start
-  start = t.before.before.before.before.before.before.before
+  start = t.before.before.before.before.before.before
 
   good : shape_broken (book start).space (length (book start).heads) ≡ false
-  good = sym (t.before.shape_broken.ensures start.args.free.now) ∙ t.if-shape_broken.left
+  good = sym (t.before.shape_broken.ensures start.args.free.now) ∙ t.if-shape_broken.false
 
 -- the desk is one
 module _ (t : tie.Else-desk) where
@@ -60,7 +60,7 @@ module _ (t : tie.Else-heads-key) where
   shaped = t.before.before
 
   known : key (start shaped) < length (book (start shaped)).heads
-  known = omega (arith, t.if-heads-key.left)
+  known = omega (arith, t.if-heads-key.false)
 
 -- the key is empty
 module _ (t : tie.Else-heads-at-ne0) where
@@ -68,7 +68,7 @@ module _ (t : tie.Else-heads-at-ne0) where
   keyed = t.before.before
 
   empty : word_of (key (start (shaped keyed))) (book (start (shaped keyed))) ≡ 0
-  empty = t.if-heads-at-ne0.left
+  empty = t.if-heads-at-ne0.false
 
 -- the numbers aren't too many
 module _ (t : tie.Else-fks-gt-MAX_OFFERED) where
@@ -79,17 +79,17 @@ module _ (t : tie.Else-fks-gt-MAX_OFFERED) where
   begin = start (shaped there)
 
   few : length (list begin) ≤ max_offered
-  few = omega (arith, t.if-fks-gt-MAX_OFFERED.left)
+  few = omega (arith, t.if-fks-gt-MAX_OFFERED.false)
 
 -- the list was judged
-module _ (k : tie.In-Bytes-2) where
+module _ (k : tie.In-Bytes) where
   abbrev listed : tie.Else-fks-gt-MAX_OFFERED
-  listed = k.before.before.before
+  listed = k.before.before
 
-  judged : Rising (2 ^ 62) 0 (list (begin listed)) × (accepted (stream_len (list (begin listed))) ≡ accepted k.judged-1.given.0.0)
+  judged : Rising (2 ^ 62) 0 (list (begin listed)) × (accepted (stream_len (list (begin listed))) ≡ accepted k.in-Bytes.bytes)
   judged =
       let ns = list (begin listed) in
-      offered_all true 0 ns (accepted (stream_len ns)) (sym k.before.before.judge_list-judged.ensures ∙ ap bytes_answer k.judged-1.given.1)
+      offered_all true 0 ns (accepted (stream_len ns)) (sym k.before.judge_list-judged.ensures ∙ ap bytes_answer k.in-Bytes.is)
 
 shape_broken-requires : tie.Need-shape_broken-requires
 shape_broken-requires c κs = search rules
@@ -100,7 +100,7 @@ shape_of-body-then-shape_broken c = search rules
 returns-then-shape_broken : tie.Need-returns-then-shape_broken
 returns-then-shape_broken c =
     let t = c.before in
-    let s = t.before.before.before.before.before.before in
+    let s = t.before.before.before.before.before in
     let broken = sym (t.shape_broken.ensures s.args.free.now) ∙ c.if-shape_broken.true in
     let e = ends_refused (book s) (load s) (loads_shape s.args.fit (desk s) (book s) (key s) (list s) broken) in
     (e.told, e.left)
@@ -176,11 +176,11 @@ shape_of-body-in_default c = search rules
 returns-in_default : tie.Need-returns-in_default
 returns-in_default c =
     let told = c.before in
-    let j = told.before.before in
+    let j = told.before in
     let t = j.before in
     let k = there t in
     let s = begin t in
-    let number = refused_as _ _ (ap bytes_answer told.enum_told-1.given.1) c.refusal.ensures in
+    let number = refused_as _ _ (ap bytes_answer told.in_default.is) c.refusal.ensures in
     let e = ends_refused (book s) (load s)
     (loads_offered s.args.fit (desk s) (book s) (key s) (list s) (good (shaped k)) (one k.before) (known k) (empty t.before)
     (few t) (sym j.judge_list-judged.ensures ∙ number)) in
@@ -188,7 +188,7 @@ returns-in_default c =
 
 load_judged-requires : tie.Need-load_judged-requires
 load_judged-requires c κs =
-    let j = c.before.before.before.before.before.before in
+    let j = c.before.before.before.before.before in
     let t = listed j in
     let k = there t in
     let s = begin t in
@@ -208,7 +208,7 @@ shape_of-heads c = search rules
 returns : tie.Need-returns
 returns c =
     let p = c.before.before.before.before in
-    let j = p.before.before.before.before.before.before.before in
+    let j = p.before.before.before.before.before.before in
     let t = listed j in
     let k = there t in
     let s = begin t in

@@ -23,20 +23,20 @@ module _ (t : tie.After-loads_to-class) where
   list = start.args.fks.now
 
   chose : loads_to start.args.fit (length list) (stream_len list) ≡ chosen t.loads_to-class.result
-  chose = sym (t.loads_to-class.ensures ∙ ap (loads_to start.args.fit (length list)) start.pre.bytes_are)
+  chose = sym (t.loads_to-class.ensures ∙ ap (loads_to start.args.fit (length list)) start.requires.bytes_are)
 
 -- a slab of a class
 module _ (k : tie.In-Class) where
   abbrev choosing : tie.After-loads_to-class
-  choosing = k.before.before.before
+  choosing = k.before
 
-  to_slab : loads_to (start choosing).args.fit (length (list choosing)) (stream_len (list choosing)) ≡ some k.before.class-1.given.0.0
-  to_slab = chose choosing ∙ ap chosen k.before.class-1.given.1
+  to_slab : loads_to (start choosing).args.fit (length (list choosing)) (stream_len (list choosing)) ≡ some k.in-Class.class
+  to_slab = chose choosing ∙ ap chosen k.in-Class.is
 
 -- a run
 module _ (e : tie.In-Nothing) where
-  to_run : loads_to (start e.before.before).args.fit (length (list e.before.before)) (stream_len (list e.before.before)) ≡ none
-  to_run = chose e.before.before ∙ ap chosen e.enum_told-1.given.1
+  to_run : loads_to (start e.before).args.fit (length (list e.before)) (stream_len (list e.before)) ≡ none
+  to_run = chose e.before ∙ ap chosen e.in-Nothing.is
 
 loads_to-class-requires : tie.Need-loads_to-class-requires
 loads_to-class-requires c κs =
@@ -51,9 +51,9 @@ enum_known-class c = search rules
 
 load_slab-requires : tie.Need-load_slab-requires
 load_slab-requires c κs =
-    let k = c.before.before.before.before.before in
+    let k = c.before.before.before.before in
     let t = choosing k in
-    let pre = (start t).pre in
+    let pre = (start t).requires in
     let (few, low, fits) = loads_to_lem (start t).args.fit (length (list t)) (stream_len (list t)) (to_slab k) in
     record { to_load = pre.to_load; low = low; few = few; rises = pre.judged.rises; fits = fits }
 
@@ -62,7 +62,7 @@ enum_told-1 c = search rules
 
 load_run-requires : tie.Need-load_run-requires
 load_run-requires c κs =
-    let pre = (start c.before.before.before.before.before.before.before).pre in
+    let pre = (start c.before.before.before.before.before.before).requires in
     record { to_load = pre.to_load; some_fks = omega (arith, pre.two_fks); judged = pre.judged }
 
 shape_of-body-in-Class : tie.Need-shape_of-body-in-Class
@@ -74,7 +74,7 @@ shape_of-heads-in-Class c = search rules
 returns-in-Class : tie.Need-returns-in-Class
 returns-in-Class c =
     let p = c.before.before.before.before in
-    rw (to_slab p.before.before.before.before.before.before) p.load_slab.ensures
+    rw (to_slab p.before.before.before.before.before) p.load_slab.ensures
 
 shape_of-body-in-Nothing : tie.Need-shape_of-body-in-Nothing
 shape_of-body-in-Nothing c = search rules

@@ -47,35 +47,35 @@ module _ (t : tie.After-run_for-answer) where
   takes = run_for desk count book.space book.counts
 
   abbrev after : Space
-  after = space t.run_for-answer.last.0 t.run_for-answer.last.1.0 t.run_for-answer.last.1.1.0
+  after = space t.run_for-answer.new.body t.run_for-answer.new.mark t.run_for-answer.new.free
 
   abbrev counted : List ℕ
-  counted = t.run_for-answer.last.1.1.1.0
+  counted = t.run_for-answer.new.counts
 
 -- a run was taken, and can be written
 module _ (k : tie.In-At) where
   abbrev taking : tie.After-run_for-answer
-  taking = k.before.before.before.before.before
+  taking = k.before.before.before
 
   abbrev taken : TakenFor
-  taken = record { off = k.before.answer-1.given.0.0; space = after taking; counts = counted taking }
+  taken = record { off = k.in-At.off; space = after taking; counts = counted taking }
 
   took : takes taking ≡ accepted taken
   took =
       let b = book taking in
       took_at b.space b.counts (after taking) (counted taking) (takes taking) taking.run_for-answer.ensures
-      (ap take_answer k.before.answer-1.given.1)
+      (ap take_answer k.in-At.is)
 
   lies : Run (length taken.space.body) taken.off (list taking) (ranges taking) (count taking)
   lies =
       let b = book taking in
-      let pre = (start taking).pre in
+      let pre = (start taking).requires in
       run_lies (desk taking) b.space b.counts taken (list taking) (ranges taking) (count taking) pre.to_load.shape pre.cut took
 
 run_for-answer-requires : tie.Need-run_for-answer-requires
 run_for-answer-requires c κs =
     let start = c.before.before.before.before.before.before.before in
-    let pre = start.pre in
+    let pre = start.requires in
     record {
       shape = pre.to_load.shape;
       known = pre.to_load.known;
@@ -98,20 +98,20 @@ shape_of-body-in_default c = search rules
 returns-in_default : tie.Need-returns-in_default
 returns-in_default c =
     let e = c.before in
-    let t = e.before.before.before.before in
-    let number = refused_as _ _ (ap take_answer e.enum_told-1.given.1) c.refusal.ensures in
+    let t = e.before.before.before in
+    let number = refused_as _ _ (ap take_answer e.in_default.is) c.refusal.ensures in
     let b = book t in
     let key = (start t).args.key in
     let (is, same, kept) = took_none b.space b.counts (after t) (counted t) (takes t) t.run_for-answer.ensures number in
     ends_still b (load_into (desk t) b key (list t) none)
-    (run_not_loaded (desk t) b key (list t) (count t) (start t).pre.cut.parts is, same, kept)
+    (run_not_loaded (desk t) b key (list t) (count t) (start t).requires.cut.parts is, same, kept)
 
 put_run-requires : tie.Need-put_run-requires
 put_run-requires c κs = lies c.before
 
 overflow_sub-last_page : tie.Need-overflow_sub-last_page
 overflow_sub-last_page c =
-    let t = taking c.before.before.before.before in count_some (list t) (ranges t) (count t) (start t).pre.cut
+    let t = taking c.before.before.before.before in count_some (list t) (ranges t) (count t) (start t).requires.cut
 
 overflow_mul-last_page : tie.Need-overflow_mul-last_page
 overflow_mul-last_page c = let run = lies c.before.before.before.before in omega (arith, run.inside, run.small)
@@ -135,9 +135,9 @@ returns c =
     let k = p.before.before in
     let t = taking k in
     does_same
-    (sym (run_loaded (desk t) (book t) (start t).args.key (list t) (count t) (start t).pre.cut.parts (taken k) (took k)
-    p.put_run.last.0 p.put_run.ensures))
-    (a.accept_load.ensures (book t) (space p.put_run.last.0 (after t).mark (after t).free) (counted t) refl)
+    (sym (run_loaded (desk t) (book t) (start t).args.key (list t) (count t) (start t).requires.cut.parts (taken k) (took k)
+    p.put_run.new.body p.put_run.ensures))
+    (a.accept_load.ensures (book t) (space p.put_run.new.body (after t).mark (after t).free) (counted t) refl)
 
 pub load_parts_spec : {M : Type 1} → statement M
 load_parts_spec =

@@ -22,7 +22,7 @@ module _ (t : tie.After-sh_page_chunk_ranges-cut) where
   list = start.args.fks.now
 
   was_cut : chunk_answer t.sh_page_chunk_ranges-cut.result ≡ accepted (length (cutting list))
-  was_cut = t.sh_page_chunk_ranges-cut.ensures.0 ∙ all_cut list start.pre.judged
+  was_cut = t.sh_page_chunk_ranges-cut.ensures.0 ∙ all_cut list start.requires.judged
 
 slice_bounds-sh_page_chunk_ranges-end : tie.Need-slice_bounds-sh_page_chunk_ranges-end
 slice_bounds-sh_page_chunk_ranges-end c = search rules
@@ -42,25 +42,25 @@ refusal-requires c κs = search rules
 returns-in_default : tie.Need-returns-in_default
 returns-in_default c =
     let e = c.before in
-    absurd (refused≢accepted (sym (ap chunk_answer e.enum_told-1.given.1) ∙ was_cut e.before.before.before))
+    absurd (refused≢accepted (sym (ap chunk_answer e.in_default.is) ∙ was_cut e.before.before))
 
 slice_bounds-load_parts-end : tie.Need-slice_bounds-load_parts-end
 slice_bounds-load_parts-end c = search rules
 
 load_parts-requires : tie.Need-load_parts-requires
 load_parts-requires c κs =
-    let k = c.before.before.before.before.before.before.before in
-    let t = k.before.before.before in
+    let k = c.before.before.before.before.before.before in
+    let t = k.before.before in
     let pre = (start t).requires in
-    let told = sym t.sh_page_chunk_ranges-cut.ensures.0 ∙ ap chunk_answer k.cut-1.given.1 in
-    let (parts, ranges) = ranges_cut (replicate 163 (replicate 2 0)) (list t) k.cut-1.given.0.0 told in
+    let told = sym t.sh_page_chunk_ranges-cut.ensures.0 ∙ ap chunk_answer k.in-Parts.is in
+    let (parts, ranges) = ranges_cut (replicate 163 (replicate 2 0)) (list t) k.in-Parts.count told in
     record {
       to_load = pre.to_load;
       cut = record {
         judged = pre.judged;
         some_fks = pre.some_fks;
         parts = parts;
-        ranges_are = ap (take k.cut-1.given.0.0) t.sh_page_chunk_ranges-cut.ensures.1 ∙ ranges;
+        ranges_are = ap (take k.in-Parts.count) t.sh_page_chunk_ranges-cut.ensures.1 ∙ ranges;
       };
     }
 

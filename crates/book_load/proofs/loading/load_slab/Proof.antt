@@ -36,7 +36,7 @@ module _ (t : tie.After-place_in_slab-answer) where
   class = start.args.class
 
   abbrev after : Space
-  after = space t.place_in_slab-answer.last.0 t.place_in_slab-answer.last.1.0 t.place_in_slab-answer.last.1.1.0
+  after = space t.place_in_slab-answer.new.body t.place_in_slab-answer.new.mark t.place_in_slab-answer.new.free
 
   abbrev places : Answer Placed
   places = places_into desk book.space book.counts list (some class)
@@ -71,11 +71,11 @@ shape_of-heads c = search rules
 returns-in-At : tie.Need-returns-in-At
 returns-in-At c =
     let a = c.before.before in
-    let k = a.before.before.before in
-    let t = k.before.before.before.before in
+    let k = a.before.before in
+    let t = k.before.before.before in
     let b = book t in
     let placed = placed_at b.space b.counts (after t) b.counts (places t) t.place_in_slab-answer.ensures
-    (ap place_answer k.answer-1.given.1) in
+    (ap place_answer k.in-At.is) in
     does_same (sym (slab_loaded (desk t) b (start t).args.key (list t) (class t) placed))
     (a.accept_load.ensures b (after t) b.counts refl)
 
@@ -84,12 +84,12 @@ shape_of-body-in-Refused c = search rules
 
 returns-in-Refused : tie.Need-returns-in-Refused
 returns-in-Refused c =
-    let k = c.before in
-    let t = k.before.before.before.before in
+    let k = c in
+    let t = k.before.before.before in
     let b = book t in
     let key = (start t).args.key in
     let (is, same, kept) = placed_none b.space b.counts (after t) b.counts (places t) t.place_in_slab-answer.ensures
-    (ap place_answer k.answer-in-Refused-1.given.1) in
+    (ap place_answer k.in-Refused.is) in
     ends_still b (load_into (desk t) b key (list t) (some (class t)))
     (slab_not_loaded (desk t) b key (list t) (class t) is, same, kept)
 

@@ -59,7 +59,7 @@ module _ (c : tie.After-read_key-counts) where
   call = at there.before
 
   is : (free counts : List ℕ) → asked call free counts ≡ answered reading (in_room (room call) (held call))
-  is free counts = read_key (book call free counts) call.args.key (room call) (whole there.before free counts) there.if-heads-key.left
+  is free counts = read_key (book call free counts) call.args.key (room call) (whole there.before free counts) there.if-heads-key.false
 
 shape_broken-requires : tie.Need-shape_broken-requires
 shape_broken-requires c κs = search rules
@@ -100,9 +100,9 @@ shape_of-out-in_default c = search rules
 
 returns-in_default : tie.Need-returns-in_default
 returns-in_default c =
-    let r = c.before.before.before.before.before in
+    let r = c.before.before.before.before in
     let t = call r in
-    let number = refused_as _ _ (ap counts_answer c.before.enum_told-1.given.1) c.refusal.ensures in
+    let number = refused_as _ _ (ap counts_answer c.before.in_default.is) c.refusal.ensures in
     for_any (asked t) t.args.out.now (λ free counts.
     read_refused (asked t free counts) (held t) (counts_answer r.read_key-counts.result) t.args.out.now _ (is r free counts)
     r.read_key-counts.ensures number)
@@ -112,14 +112,14 @@ shape_of-out c = search rules
 
 returns : tie.Need-returns
 returns c =
-    let d = c.before in
-    let r = d.before.before.before.before in
+    let d = c in
+    let r = d.before.before.before in
     let t = call r in
     for_any (asked t) t.args.out.now (λ free counts.
     read_accepted (asked t free counts) (held t) (counts_answer r.read_key-counts.result) t.args.out.now _ (is r free counts)
     r.read_key-counts.ensures
-    (record { length = d.counts-1.given.0.0; pages = d.counts-1.given.0.1.0; padded = d.counts-1.given.0.1.1.0 })
-    (ap counts_answer d.counts-1.given.1))
+    (record { length = d.in-Counts.length; pages = d.in-Counts.pages; padded = d.in-Counts.padded })
+    (ap counts_answer d.in-Counts.is))
 
 pub read_spec : {M : Type 1} → statement M
 read_spec =

@@ -31,7 +31,7 @@ decreases_loop fks prev₀ len₀ k₀ prev len k = length fks - k
 -- in a turn whose number was accepted
 module _ (c : tie.In-Bytes invariant_loop decreases_loop) where
   abbrev loc : tie.At-loop-k invariant_loop decreases_loop
-  loc = c.before.before.before.before.before.before
+  loc = c.before.before.before.before
 
   abbrev numbers : List ℕ
   numbers = loc.before.before.args.fks.now
@@ -40,11 +40,11 @@ module _ (c : tie.In-Bytes invariant_loop decreases_loop) where
   fk = get_or numbers loc.loop-k.k 0
 
   abbrev more : ℕ
-  more = c.before.got-1.given.0.0
+  more = c.in-Bytes.more
 
   -- what the number by itself was answered
   is : offered_number (eqb loc.loop-k.prev 0) loc.loop-k.prev fk (accepted (uleb_len (fk - loc.loop-k.prev))) ≡ accepted more
-  is = sym c.before.before.before.judge_behind-got.ensures ∙ ap bytes_answer c.before.got-1.given.1
+  is = sym c.before.judge_behind-got.ensures ∙ ap bytes_answer c.in-Bytes.is
 
   -- it is above the one before it and below 2^62, and its form is as long as told
   known : (loc.loop-k.prev < fk) × (fk < 2 ^ 62) × (accepted (uleb_len (fk - loc.loop-k.prev)) ≡ accepted more)
@@ -76,11 +76,10 @@ enum_told-1 c = search rules
 
 returns-in_default : tie.Need-returns-in_default invariant_loop decreases_loop
 returns-in_default c =
-    let l = c.before.before.before.before.before in
+    let l = c.before.before.before.before in
     let fks = l.before.before.args.fks.now in
-    let told = c.enum_told-1.given in
-    let stop = sym c.before.before.judge_behind-got.ensures ∙ ap bytes_answer told.1 in
-    ap bytes_answer told.1 ∙ sym (from_refused l.loop-k.len l.loop-k.prev (get_or fks l.loop-k.k 0) (drop (l.loop-k.k + 1) fks) stop)
+    let stop = sym c.before.judge_behind-got.ensures ∙ ap bytes_answer c.in_default.is in
+    ap bytes_answer c.in_default.is ∙ sym (from_refused l.loop-k.len l.loop-k.prev (get_or fks l.loop-k.k 0) (drop (l.loop-k.k + 1) fks) stop)
     ∙ (rw (front fks l.loop-k.k (omega arith)) at l.loop-k.invariant.3)
 
 overflow_add-len : tie.Need-overflow_add-len invariant_loop decreases_loop
@@ -99,7 +98,7 @@ loop-k-preserved c =
       search rules,
       (known c).1,
       omega (arith, short c),
-      sym (from_more l.len l.prev (fk c) (drop (l.k + 1) (numbers c)) (is c)) ∙ (rw front-here at l.inv.3),
+      sym (from_more l.len l.prev (fk c) (drop (l.k + 1) (numbers c)) (is c)) ∙ (rw front-here at l.invariant.3),
     )
 
 returns : tie.Need-returns invariant_loop decreases_loop

@@ -27,12 +27,12 @@ slab_class_for_packed_len-requires c κs = search rules
 
 returns-in-Spare : tie.Need-returns-in-Spare
 unfolding loads_to
-returns-in-Spare c = rw c.before.enum_told-1.given.1 c.moves_to.ensures
+returns-in-Spare c = rw c.before.in-Spare.is c.moves_to.ensures
 
 returns-in-Tight : tie.Need-returns-in-Tight
 returns-in-Tight c =
-    let a = c.before.before.before.before.args in
-    rw c.before.enum_told-in-Tight-1.given.1 (c.slab_class_for_packed_len.ensures ∙ sym (loads_by_bytes a.count a.bytes (omega arith)))
+    let a = c.before.before.before.args in
+    rw c.before.in-Tight.is (c.slab_class_for_packed_len.ensures ∙ sym (loads_by_bytes a.count a.bytes (omega arith)))
 
 pub loads_to_spec : {M : Type 1} → statement M
 loads_to_spec =

@@ -16,20 +16,20 @@ use Rattle.book_space.proofs.desks.give_back.Tie as tie
 -- the counts aren't high
 module _ (t : tie.Else-counts_high) where
   abbrev start : tie.Start
-  start = t.before.before.before
+  start = t.before.before
 
   abbrev counts : List ℕ
   counts = start.args.counts.now
 
   low : counts_high start.args.size counts ≡ false
-  low = sym t.before.counts_high.ensures ∙ t.if-counts_high.left
+  low = sym t.before.counts_high.ensures ∙ t.if-counts_high.false
 
 counts_high-requires : tie.Need-counts_high-requires
 counts_high-requires c κs = search rules
 
 returns-then-counts_high : tie.Need-returns-then-counts_high
 returns-then-counts_high c =
-    let start = c.before.before.before in
+    let start = c.before.before in
     let a = start.args in
     let high = sym c.before.counts_high.ensures ∙ c.if-counts_high.true in
     let is = back_high a.size a.desk a.pages a.counts.now start.requires.some {A = List ℕ} accepted high in
@@ -46,7 +46,7 @@ bounds-counts-desk c = search rules
 
 returns-then-held-pages : tie.Need-returns-then-held-pages
 returns-then-held-pages c =
-    let t = c.before.before in
+    let t = c.before.before.before in
     let a = (start t).args in
     let is = back_few a.size a.desk a.pages (counts t) (start t).requires.some {A = List ℕ} accepted (low t) c.if-held-pages.true in
     record { told = number_refused is; left = value_refused (λ (x : List ℕ). x) (counts t) is }
@@ -56,7 +56,7 @@ bounds-counts-0 c = search rules
 
 overflow_add-freed : tie.Need-overflow_add-freed
 overflow_add-freed c =
-    let t = c.before.before.before.before in
+    let t = c.before.before.before.before.before in
     let a = (start t).args in
     let l = counts_low a.size (counts t) (low t) in
     omega (arith, l.freed, l.held a.desk (start t).requires.known, c.before.before.if-held-pages.false)
@@ -66,7 +66,7 @@ put_counts-requires c κs = search rules
 
 returns : tie.Need-returns
 returns c =
-    let t = c.before.before.before.before.before in
+    let t = c.before.before.before.before.before.before in
     let a = (start t).args in
     let is = back_given a.size a.desk a.pages (counts t) (start t).requires.some {A = List ℕ} accepted (low t)
     c.before.before.before.if-held-pages.false in

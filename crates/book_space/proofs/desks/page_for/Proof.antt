@@ -46,23 +46,23 @@ module _ (t : tie.After-peek_block-ahead) where
 
   tested : freed_untrue (before begun) (counts begun) ≡ false
   unfolding freed_untrue
-  tested = sym t.before.before.before.before.before.freed_untrue.ensures ∙ t.before.before.before.before.if-freed_untrue.left
+  tested = sym t.before.before.before.freed_untrue.ensures ∙ t.before.before.if-freed_untrue.false
 
 -- the take would be accepted, and leave a mark
 module _ (k : tie.In-Mark) where
   abbrev looked : tie.After-peek_block-ahead
-  looked = k.before.before.before
+  looked = k.before
 
   abbrev end : ℕ
-  end = k.before.ahead-1.given.0.0
+  end = k.in-Mark.end
 
   ahead : answered mark_after (take_block page_class (before (begun looked))) ≡ accepted end
-  ahead = sym looked.peek_block-ahead.ensures ∙ ap peek_answer k.before.ahead-1.given.1
+  ahead = sym looked.peek_block-ahead.ensures ∙ ap peek_answer k.in-Mark.is
 
 -- its judgement
 module _ (j : tie.After-judge_take-number) where
   abbrev known : tie.In-Mark
-  known = j.before.before.before
+  known = j.before.before
 
   abbrev first : tie.Start
   first = begun (looked known)
@@ -71,7 +71,7 @@ module _ (j : tie.After-judge_take-number) where
   judgement =
       j.judge_take-number.ensures
       ∙ ap (λ (freed : ℕ). judged_number (length (before first).body) (desk first) 1 freed (counts first) (end known))
-      j.before.before.freed_left-left.ensures
+      j.before.freed_left-left.ensures
 
 bounds-free-8 : tie.Need-bounds-free-8
 bounds-free-8 c = search rules
@@ -85,7 +85,7 @@ freed_untrue-requires c κs = search rules
 returns-then-freed_untrue : tie.Need-returns-then-freed_untrue
 unfolding page_for freed_untrue
 returns-then-freed_untrue c =
-    let start = c.before.before.before.before.before in
+    let start = c.before.before.before.before.before.before.before in
     refused_for (before start) (counts start) (refuse_yes _ _ _ (sym c.before.freed_untrue.ensures ∙ c.if-freed_untrue.true))
 
 peek_block-ahead-requires : tie.Need-peek_block-ahead-requires
@@ -105,9 +105,9 @@ shape_of-body-in_default c = search rules
 
 returns-in_default : tie.Need-returns-in_default
 returns-in_default c =
-    let t = c.before.before.before in
+    let t = c.before.before in
     let start = begun t in
-    let is = refused_as _ _ (ap peek_answer c.before.enum_told-1.given.1) c.refusal.ensures in
+    let is = refused_as _ _ (ap peek_answer c.before.in_default.is) c.refusal.ensures in
     refused_for (before start) (counts start)
     (page_tested (desk start) (before start) (counts start) (tested t)
     ∙ peek_refused (length (before start).body) (desk start) 1 (left start) (counts start) (later start)
@@ -119,14 +119,14 @@ freed_left-left-requires c κs = search rules
 
 judge_take-number-requires : tie.Need-judge_take-number-requires
 judge_take-number-requires c κs =
-    let k = c.before.before in
+    let k = c.before in
     let start = begun (looked k) in
-    let pre = start.pre in
+    let pre = start.requires in
     record {
       known = pre.known;
       body = pre.shape.most;
       asked = omega arith;
-      left = omega (arith, c.before.freed_left-left.ensures, freed_less (before start) (counts start));
+      left = omega (arith, c.freed_left-left.ensures, freed_less (before start) (counts start));
       within = block_within page_class (before start) (omega arith) pre.shape (ahead k);
     }
 
@@ -155,15 +155,15 @@ bounds-counts-desk c = search rules
 
 overflow_add-held-2 : tie.Need-overflow_add-held-2
 overflow_add-held-2 c =
-    let j = c.before.before.before in
+    let j = c.before.before.before.before in
     let start = first j in
     let low = judged_low (length (before start).body) (desk start) 1 (left start) (counts start) (later start) (end (known j))
-    (judgement j) c.before.before.if-number-ne0.false in
+    (judgement j) c.before.before.before.if-number-ne0.false in
     omega (
       arith,
       (counts_low (length (before start).body) (counts start) low).held (desk start)
-          start.pre.known,
-      start.pre.shape.most,
+          start.requires.known,
+      start.requires.shape.most,
     )
 
 put_counts-requires : tie.Need-put_counts-requires
@@ -177,17 +177,17 @@ shape_of-body c = search rules
 
 returns : tie.Need-returns
 returns c =
-    let j = c.before.before.before.before.before.before.before.before.before.before in
+    let j = c.before.before.before.before.before.before.before.before.before.before.before in
     let k = known j in
     let start = first j in
     let take = c.before.before in
     let done = takes_for_same (page_tested (desk start) (before start) (counts start) (tested (looked k)))
     (take_judged (length (before start).body) (desk start) 1 (left start) (counts start) (later start) (take_block page_class (before start))
-    (ahead k) (judgement j) c.before.before.before.before.before.before.before.before.before.if-number-ne0.false
+    (ahead k) (judgement j) c.before.before.before.before.before.before.before.before.before.before.if-number-ne0.false
     take.take_block.ensures) in
     let put = take.before.before.before.before.put_counts.ensures ∙ ap
     (λ (freed : ℕ). counted freed (desk start) (held_count (desk start) (counts start) + 1) (counts start))
-    j.before.before.freed_left-left.ensures in
+    j.before.freed_left-left.ensures in
     record { told = done.told; left = done.left; counts = put ∙ done.counts }
 
 pub page_for_spec : {M : Type 1} → statement M

@@ -16,14 +16,14 @@ module _ (t : tie.Start) where
 
 module _ (t : tie.After-is_block) where
   abbrev start : tie.Start
-  start = t.before.before.before.before.before
+  start = t.before.before.before.before.before.before
 
   abbrev class : ℕ
   class = start.args.class
 
-  tested : is_block class (first_freed class (lists_of (here start))) (pop_end class (here start).mark) ≡ t.is_Block.result
+  tested : is_block class (first_freed class (lists_of (here start))) (pop_end class (here start).mark) ≡ t.is_block.result
   tested =
-      ap (is_block class (first_freed class (lists_of (here start)))) (sym t.before.pop_end.ensures) ∙ sym t.is_Block.ensures
+      ap (is_block class (first_freed class (lists_of (here start)))) (sym t.before.pop_end.ensures) ∙ sym t.is_block.ensures
 
 offset_bounds-free-idx : tie.Need-offset_bounds-free-idx
 offset_bounds-free-idx c = search rules
@@ -36,7 +36,7 @@ peek_run-requires c κs = search rules
 
 returns-then-class-eq-SH_PAGE_SLAB_CLASS : tie.Need-returns-then-class-eq-SH_PAGE_SLAB_CLASS
 returns-then-class-eq-SH_PAGE_SLAB_CLASS c =
-    let start = c.before.before.before.before.before in
+    let start = c.before.before.before.before.before.before in
     c.peek_run.ensures
     ∙ sym (page_ahead start.args.class (here start) start.requires.low start.requires.shape
     c.before.before.if-off-eq0.true c.before.if-class-eq-SH_PAGE_SLAB_CLASS.true)
@@ -46,7 +46,7 @@ peek_slab-requires c κs = search rules
 
 returns-then-off-eq0 : tie.Need-returns-then-off-eq0
 returns-then-off-eq0 c =
-    let start = c.before.before.before.before.before in
+    let start = c.before.before.before.before.before.before in
     c.peek_slab.ensures
     ∙ sym (slab_ahead start.args.class (here start) start.requires.low start.requires.shape
     c.before.before.if-off-eq0.true c.before.if-class-eq-SH_PAGE_SLAB_CLASS.false)

@@ -20,10 +20,10 @@ module _ (t : tie.After-slab_bytes) where
   start = t.before
 
   size : t.slab_bytes.result ≡ slab_bytes start.args.class
-  size = t.slab_bytes.ensures ∙ bytes_fit start.args.class (omega (arith, start.pre.1))
+  size = t.slab_bytes.ensures ∙ bytes_fit start.args.class (omega (arith, start.requires.1))
 
   few : slab_bytes start.args.class ≤ 2048
-  few = size_mono 4 {c = start.args.class} {d = 7} start.pre.1
+  few = size_mono 4 {c = start.args.class} {d = 7} start.requires.1
 
 slab_bytes-requires : tie.Need-slab_bytes-requires
 slab_bytes-requires c κs = search rules

@@ -39,18 +39,18 @@ module _ (t : tie.After-peek_run-ahead) where
   before = space start.args.body.now start.args.mark.now start.args.free.now
 
   looks : peek_answer t.peek_run-ahead.result ≡ answered mark_after (run_at_mark pages before)
-  looks = t.peek_run-ahead.ensures ∙ sym (run_marked pages before start.pre.shape)
+  looks = t.peek_run-ahead.ensures ∙ sym (run_marked pages before start.requires.shape)
 
 -- the take would be accepted, and leave a mark
 module _ (k : tie.In-Mark) where
   abbrev looked : tie.After-peek_run-ahead
-  looked = k.before.before.before
+  looked = k.before
 
   abbrev end : ℕ
-  end = k.before.ahead-1.given.0.0
+  end = k.in-Mark.end
 
   ahead : answered mark_after (run_at_mark (pages looked) (before looked)) ≡ accepted end
-  ahead = sym (looks looked) ∙ ap peek_answer k.before.ahead-1.given.1
+  ahead = sym (looks looked) ∙ ap peek_answer k.in-Mark.is
 
 peek_run-ahead-requires : tie.Need-peek_run-ahead-requires
 peek_run-ahead-requires c κs = search rules
@@ -67,8 +67,8 @@ refusal-requires c κs = search rules
 returns-in_default : tie.Need-returns-in_default
 unfolding run_found take_found
 returns-in_default c =
-    let t = c.before.before.before in
-    let is = refused_as _ _ (ap peek_answer c.before.enum_told-1.given.1) c.refusal.ensures in
+    let t = c.before.before in
+    let is = refused_as _ _ (ap peek_answer c.before.in_default.is) c.refusal.ensures in
     refused_for (before t) (counts t)
     (peek_refused (length (before t).body) (desk t) (pages t) (freed_count (counts t)) (counts t) (later t) (run_at_mark (pages t) (before t))
     (sym (looks t) ∙ is))
@@ -79,7 +79,7 @@ bounds-counts-0 c = search rules
 judge_take-number-requires : tie.Need-judge_take-number-requires
 judge_take-number-requires c κs =
     let k = c.before.before in
-    let pre = (start (looked k)).pre in
+    let pre = (start (looked k)).requires in
     record {
       known = pre.known;
       body = pre.shape.most;
@@ -109,11 +109,11 @@ bounds-counts-desk c = search rules
 overflow_add-held-2 : tie.Need-overflow_add-held-2
 overflow_add-held-2 c =
     let j = c.before.before in
-    let k = j.before.before.before.before in
+    let k = j.before.before.before.before.before in
     let t = looked k in
-    let pre = (start t).pre in
+    let pre = (start t).requires in
     let low = judged_low (length (before t).body) (desk t) (pages t) (freed_count (counts t)) (counts t) (later t) (end k)
-    j.before.judge_take-number.ensures j.if-number-ne0.false in
+    j.before.before.judge_take-number.ensures j.before.if-number-ne0.false in
     omega (arith, (counts_low (length (before t).body) (counts t) low).held (desk t) pre.known, pre.low, pre.shape.most)
 
 put_counts-requires : tie.Need-put_counts-requires
@@ -129,12 +129,12 @@ returns : tie.Need-returns
 unfolding run_found take_found
 returns c =
     let j = c.before.before.before.before.before.before.before.before.before in
-    let k = j.before.before.before.before in
+    let k = j.before.before.before.before.before in
     let t = looked k in
     let take = c.before.before in
     let done = take_judged (length (before t).body) (desk t) (pages t) (freed_count (counts t)) (counts t) (later t)
     (run_at_mark (pages t) (before t))
-    (ahead k) j.before.judge_take-number.ensures j.if-number-ne0.false take.run_at_mark.ensures in
+    (ahead k) j.before.before.judge_take-number.ensures j.before.if-number-ne0.false take.run_at_mark.ensures in
     record { told = done.told; left = done.left; counts = take.before.before.before.before.put_counts.ensures ∙ done.counts }
 
 pub run_at_mark_for_spec : {M : Type 1} → statement M

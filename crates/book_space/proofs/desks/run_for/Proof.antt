@@ -13,7 +13,7 @@ use Rattle.book_space.proofs.desks.run_for.Tie as tie
 -- the arguments, and what the search told
 module _ (t : tie.After-seek_run-found) where
   abbrev start : tie.Start
-  start = t.before.before.before.before.before.before
+  start = t.before.before.before.before.before.before.before
 
   abbrev pages : ℕ
   pages = start.args.pages
@@ -44,14 +44,14 @@ enum_known-found c = search rules
 
 run_freed_for-requires : tie.Need-run_freed_for-requires
 run_freed_for-requires c κs =
-    let a = c.before.before.before.before in
-    let t = a.before.before in
+    let a = c.before.before.before in
+    let t = a.before in
     let pre = (start t).requires in
     record {
       shape = pre.shape;
       known = pre.known;
       some_pages = pre.some_pages;
-      found = told t ∙ ap found_answer a.found-1.given.1;
+      found = told t ∙ ap found_answer a.in-At.is;
     }
 
 enum_told-1 : tie.Need-enum_told-1
@@ -69,9 +69,9 @@ shape_of-body-in-At c = search rules
 returns-in-At : tie.Need-returns-in-At
 returns-in-At c =
     let r = c.before.before in
-    let a = r.before.before.before.before.before in
-    let t = a.before.before in
-    takes_for_same (run_searched (desk t) (before t) (counts t) (pages t) (told t ∙ ap found_answer a.found-1.given.1))
+    let a = r.before.before.before.before in
+    let t = a.before in
+    takes_for_same (run_searched (desk t) (before t) (counts t) (pages t) (told t ∙ ap found_answer a.in-At.is))
     r.run_freed_for.ensures
 
 shape_of-body-in-Nothing : tie.Need-shape_of-body-in-Nothing
@@ -81,8 +81,8 @@ returns-in-Nothing : tie.Need-returns-in-Nothing
 returns-in-Nothing c =
     let r = c.before.before in
     let a = r.before.before.before.before.before in
-    let t = a.before.before in
-    takes_for_same (run_searched (desk t) (before t) (counts t) (pages t) (told t ∙ ap found_answer a.enum_told-1.given.1))
+    let t = a.before in
+    takes_for_same (run_searched (desk t) (before t) (counts t) (pages t) (told t ∙ ap found_answer a.in-Nothing.is))
     r.run_at_mark_for.ensures
 
 shape_of-body-in-Strays : tie.Need-shape_of-body-in-Strays
@@ -90,9 +90,9 @@ shape_of-body-in-Strays c = search rules
 
 returns-in-Strays : tie.Need-returns-in-Strays
 returns-in-Strays c =
-    let t = c.before.before in
+    let t = c.before in
     refused_for (before t) (counts t)
-    (run_unsearched (desk t) (before t) (counts t) (pages t) (told t ∙ ap found_answer c.enum_told-in-Strays-1.given.1))
+    (run_unsearched (desk t) (before t) (counts t) (pages t) (told t ∙ ap found_answer c.in-Strays.is))
 
 pub run_for_spec : {M : Type 1} → statement M
 run_for_spec =

@@ -49,10 +49,10 @@ module _ (start : tie.Start) where
   stays = answered_yes mark_after takes refl
 
   few : pages ≤ freed
-  few = run_few pages freed off before start.pre.some_pages start.pre.found
+  few = run_few pages freed off before start.requires.some_pages start.requires.found
 
   below : off + pages * page_size ≤ before.mark
-  below = run_below pages freed off before start.pre.some_pages start.pre.found
+  below = run_below pages freed off before start.requires.some_pages start.requires.found
 
 -- where it was judged
 module _ (j : tie.After-judge_take-number) where
@@ -63,7 +63,7 @@ bounds-counts-0 : tie.Need-bounds-counts-0
 bounds-counts-0 c = search rules
 
 overflow_sub-left : tie.Need-overflow_sub-left
-overflow_sub-left c = few c.before.before
+overflow_sub-left c = few c.before.before.before
 
 judge_take-number-requires : tie.Need-judge_take-number-requires
 judge_take-number-requires c κs =
@@ -98,11 +98,11 @@ bounds-counts-desk c = search rules
 overflow_add-held-2 : tie.Need-overflow_add-held-2
 overflow_add-held-2 c =
     let e = c.before.before in
-    let j = e.before in
+    let j = e.before.before in
     let t = first j in
-    let pre = t.pre in
+    let pre = t.requires in
     let low = judged_low (length (before t).body) (desk t) (pages t) (freed t - pages t) (counts t) (later t) (before t).mark
-    j.judge_take-number.ensures e.if-number-ne0.false in
+    j.judge_take-number.ensures e.before.if-number-ne0.false in
     omega (
       arith,
       (counts_low (length (before t).body) (counts t) low).held (desk t) pre.known,
@@ -120,21 +120,21 @@ bounds-free-8 c = search rules
 -- where it is taken out
 module _ (c : tie.After-unlink-arg-1) where
   abbrev passed : tie.Else-number-ne0
-  passed = c.before.before.before.before.before
+  passed = c.before.before.before.before.before.before.before
 
   abbrev begun : tie.Start
   begun = first passed.before
 
 overflow_mul-pages : tie.Need-overflow_mul-pages
-overflow_mul-pages c = let t = begun c in omega (arith, below t, t.pre.shape.within, t.pre.shape.most)
+overflow_mul-pages c = let t = begun c in omega (arith, below t, t.requires.shape.within, t.requires.shape.most)
 
 overflow_add-off : tie.Need-overflow_add-off
-overflow_add-off c = let t = begun c in omega (arith, below t, t.pre.shape.within, t.pre.shape.most)
+overflow_add-off c = let t = begun c in omega (arith, below t, t.requires.shape.within, t.requires.shape.most)
 
 unlink-top-requires : tie.Need-unlink-top-requires
 unlink-top-requires c κs =
     let t = begun c in
-    (t.pre.shape.within, list_ends (pages t) (freed t) (off t) (before t) t.pre.some_pages t.pre.found)
+    (t.requires.shape.within, list_ends (pages t) (freed t) (off t) (before t) t.requires.some_pages t.requires.found)
 
 bounds-free-8-2 : tie.Need-bounds-free-8-2
 bounds-free-8-2 c = search rules
@@ -150,8 +150,8 @@ returns c =
     let t = begun u.before in
     let gone = unlinked_takes (pages t) (freed t) (off t) (before t) u.unlink-top.ensures.0 u.unlink-top.ensures.1 in
     let done = take_judged (length (before t).body) (desk t) (pages t) (freed t - pages t) (counts t) (later t) (takes t) (stays t)
-    e.before.judge_take-number.ensures e.if-number-ne0.left gone in
-    record { told = done.told; left = done.left; counts = u.before.before.before.put_counts.ensures ∙ done.counts }
+    e.before.judge_take-number.ensures e.if-number-ne0.false gone in
+    record { told = done.told; left = done.left; counts = u.before.before.before.before.put_counts.ensures ∙ done.counts }
 
 pub run_freed_for_spec : {M : Type 1} → statement M
 run_freed_for_spec =

@@ -20,7 +20,7 @@ use Rattle.book_space.proofs.desks.slab_for.Tie as tie
 -- the arguments
 module _ (t : tie.After-peek_block-ahead) where
   abbrev start : tie.Start
-  start = t.before.before.before.before.before
+  start = t.before.before.before
 
   abbrev class : ℕ
   class = start.args.class
@@ -37,13 +37,13 @@ module _ (t : tie.After-peek_block-ahead) where
 -- the take would be accepted, and leave a mark
 module _ (k : tie.In-Mark) where
   abbrev looked : tie.After-peek_block-ahead
-  looked = k.before.before.before
+  looked = k.before
 
   abbrev end : ℕ
-  end = k.before.ahead-1.given.0.0
+  end = k.in-Mark.end
 
   ahead : answered mark_after (take_block (class looked) (before looked)) ≡ accepted end
-  ahead = sym looked.peek_block-ahead.ensures ∙ ap peek_answer k.before.ahead-1.given.1
+  ahead = sym looked.peek_block-ahead.ensures ∙ ap peek_answer k.in-Mark.is
 
 peek_block-ahead-requires : tie.Need-peek_block-ahead-requires
 peek_block-ahead-requires c κs = search rules
@@ -63,8 +63,8 @@ shape_of-body-in_default c = search rules
 returns-in_default : tie.Need-returns-in_default
 unfolding slab_for
 returns-in_default c =
-    let t = c.before.before.before in
-    let is = refused_as _ _ (ap peek_answer c.before.enum_told-1.given.1) c.refusal.ensures in
+    let t = c.before.before in
+    let is = refused_as _ _ (ap peek_answer c.before.in_default.is) c.refusal.ensures in
     refused_for (before t) (counts t)
     (peek_refused (length (before t).body) (desk t) 0 (freed_count (counts t)) (counts t) (counts t) (take_block (class t) (before t))
     (sym t.peek_block-ahead.ensures ∙ is))
@@ -74,8 +74,8 @@ bounds-counts-0 c = search rules
 
 judge_take-number-requires : tie.Need-judge_take-number-requires
 judge_take-number-requires c κs =
-    let k = c.before in
-    let pre = (start (looked k)).pre in
+    let k = c.before.before in
+    let pre = (start (looked k)).requires in
     record {
       known = pre.known;
       body = pre.shape.most;
@@ -90,7 +90,7 @@ shape_of-body-then-number-ne0 c = search rules
 returns-then-number-ne0 : tie.Need-returns-then-number-ne0
 unfolding slab_for
 returns-then-number-ne0 c =
-    let k = c.before.before.before in
+    let k = c.before.before.before.before in
     let t = looked k in
     refused_for (before t) (counts t)
     (judge_refused (length (before t).body) (desk t) 0 (freed_count (counts t)) (counts t) (counts t) (take_block (class t) (before t))
@@ -106,7 +106,7 @@ returns : tie.Need-returns
 unfolding slab_for
 returns c =
     let judged = c.before.before.before.before.before.before in
-    let k = judged.before.before.before in
+    let k = judged.before.before.before.before in
     let t = looked k in
     take_judged (length (before t).body) (desk t) 0 (freed_count (counts t)) (counts t) (counts t) (take_block (class t) (before t))
     (ahead k) judged.before.judge_take-number.ensures judged.if-number-ne0.false c.before.before.take_block.ensures

@@ -17,7 +17,7 @@ returns c mark =
     let start = c.before.before.before.before.before.before in
     let a = start.args in
     let push = c.before.before.push_lent in
-    release_pushed a.class a.off (space a.body.now mark a.free.now) (lists push.new.0 push.new.1.0) start.requires
+    release_pushed a.class a.off (space a.body.now mark a.free.now) (lists push.new.body push.new.heads) start.requires
     push.ensures.1
 
 pub release_block_spec : {M : Type 1} → statement M

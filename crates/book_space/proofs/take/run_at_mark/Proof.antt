@@ -46,7 +46,7 @@ returns : tie.Need-returns
 returns c =
     let t = c.before.before.before.before.before.before in
     let start = t.before.before.before in
-    let l = lists c.before.before.carve_lent.new.0 c.before.before.carve_lent.new.1.0 in
+    let l = lists c.before.before.carve_lent.new.body c.before.before.carve_lent.new.heads in
     let gap = c.before.before.before.before.before.gap_end-to.ensures in
     let carved = rw gap at c.before.before.carve_lent.ensures.1 in
     let answer = run_yes start.args.pages (before start) start.requires.shape l carved t.if-body-end.false in

@@ -15,7 +15,7 @@ use Rattle.book_space.proofs.take.take_block.Tie as tie
 -- the space before the take
 module _ (t : tie.After-pop_lent-popped) where
   abbrev start : tie.Start
-  start = t.before.before.before.before.before.before
+  start = t.before.before.before.before.before
 
   abbrev before : Space
   before = space start.args.body.now start.args.mark.now start.args.free.now
@@ -28,16 +28,16 @@ module _ (t : tie.After-pop_lent-popped) where
 
 -- where the pop gave none, the take is that of a fresh block
 fresh : (t : tie.In-Nothing)
-    → take_block (class t.before.before) (before t.before.before)
-    ≡ take_fresh (class t.before.before) (before t.before.before)
-fresh t = let p = t.before.before in
-    told_none (class p) (before p) (sym (rw (end_is p) at p.pop_lent-popped.ensures.0) ∙ ap pop_answer t.enum_told-1.given.1)
+    → take_block (class t.before) (before t.before)
+    ≡ take_fresh (class t.before) (before t.before)
+fresh t = let p = t.before in
+    told_none (class p) (before p) (sym (rw (end_is p) at p.pop_lent-popped.ensures.0) ∙ ap pop_answer t.in-Nothing.is)
 
 -- and the free heads are as before
-unpopped : (t : tie.In-Nothing) → t.before.before.pop_lent-popped.new.1.0 ≡ (start t.before.before).args.free.now
-unpopped t = let p = t.before.before in
+unpopped : (t : tie.In-Nothing) → t.before.pop_lent-popped.new.heads ≡ (start t.before).args.free.now
+unpopped t = let p = t.before in
     left_none (class p) (pop_end (class p) (before p).mark) (lists_of (before p))
-    (sym (rw (end_is p) at p.pop_lent-popped.ensures.0) ∙ ap pop_answer t.enum_told-1.given.1) (rw (end_is p) at p.pop_lent-popped.ensures.1)
+    (sym (rw (end_is p) at p.pop_lent-popped.ensures.0) ∙ ap pop_answer t.in-Nothing.is) (rw (end_is p) at p.pop_lent-popped.ensures.1)
 
 pop_end-requires : tie.Need-pop_end-requires
 pop_end-requires c κs = search rules
@@ -60,7 +60,7 @@ shape_of-body-then-class-eq-SH_PAGE_SLAB_CLASS c = search rules
 returns-then-class-eq-SH_PAGE_SLAB_CLASS : tie.Need-returns-then-class-eq-SH_PAGE_SLAB_CLASS
 returns-then-class-eq-SH_PAGE_SLAB_CLASS c =
     let told = c.before.before.before.before.before.before.before in
-    let t = told.before.before in
+    let t = told.before in
     let a = (start t).args in
     let answer : take_block (class t) (before t) ≡ run_at_mark 1 (before t)
     = fresh told ∙ ap (λ (k : ℕ). take_fresh k (before t)) c.before.before.before.before.before.before.if-class-eq-SH_PAGE_SLAB_CLASS.true
@@ -79,9 +79,9 @@ shape_of-body-in-Block c = search rules
 
 returns-in-Block : tie.Need-returns-in-Block
 returns-in-Block c =
-    let t = c.before.before.before in
-    let answer = told_block (class t) (before t) t.pop_lent-popped.new.1.0 (sym (rw (end_is t) at t.pop_lent-popped.ensures.0)
-    ∙ ap pop_answer c.before.popped-1.given.1) (rw (end_is t) at t.pop_lent-popped.ensures.1) in
+    let t = c.before in
+    let answer = told_block (class t) (before t) t.pop_lent-popped.new.heads (sym (rw (end_is t) at t.pop_lent-popped.ensures.0)
+    ∙ ap pop_answer c.in-Block.is) (rw (end_is t) at t.pop_lent-popped.ensures.1) in
     takes_yes (before t) _ answer
 
 shape_of-body-else-class-eq-SH_PAGE_SLAB_CLASS : tie.Need-shape_of-body-else-class-eq-SH_PAGE_SLAB_CLASS
@@ -89,11 +89,11 @@ shape_of-body-else-class-eq-SH_PAGE_SLAB_CLASS c = search rules
 
 returns-else-class-eq-SH_PAGE_SLAB_CLASS : tie.Need-returns-else-class-eq-SH_PAGE_SLAB_CLASS
 returns-else-class-eq-SH_PAGE_SLAB_CLASS c =
-    let told = c.before.before.before.before.before in
-    let t = told.before.before in
+    let told = c.before.before.before.before in
+    let t = told.before in
     let a = (start t).args in
     let answer : take_block (class t) (before t) ≡ take_slab (slab_bytes (class t)) (before t)
-    = fresh told ∙ fresh_slab (class t) (before t) c.before.before.before.before.if-class-eq-SH_PAGE_SLAB_CLASS.false in
+    = fresh told ∙ fresh_slab (class t) (before t) c.before.before.before.if-class-eq-SH_PAGE_SLAB_CLASS.false in
     takes_same (sym answer) (takes_with (take_slab (slab_bytes (class t))) a.body.now a.mark.now (unpopped told)
     c.take_slab.ensures)
 
@@ -102,9 +102,9 @@ shape_of-body-in-Refused c = search rules
 
 returns-in-Refused : tie.Need-returns-in-Refused
 returns-in-Refused c =
-    let t = c.before.before.before in
+    let t = c.before in
     let a = (start t).args in
-    let told = sym (rw (end_is t) at t.pop_lent-popped.ensures.0) ∙ ap pop_answer c.before.popped-in-Refused-1.given.1 in
+    let told = sym (rw (end_is t) at t.pop_lent-popped.ensures.0) ∙ ap pop_answer c.in-Refused.is in
     let same = left_refused (class t) (pop_end (class t) (before t).mark) (lists_of (before t)) told
     (rw (end_is t) at t.pop_lent-popped.ensures.1) in
     let took = takes_no (before t) _ (told_refused (class t) (before t) told) in

@@ -20,9 +20,9 @@ use Rattle.book_start.proofs.claiming.claim_chain.Statement.{statement}
 use Rattle.book_start.proofs.claiming.claim_chain.Tie as tie
 
 -- the chain was walked
-module _ (c : tie.In-Chain-2) where
+module _ (c : tie.In-Chain) where
   abbrev at : tie.Start
-  at = c.before.before.before.before.before
+  at = c.before.before.before.before
 
   abbrev s : Ground
   s = body_ground at.args.body.now at.args.mark
@@ -30,19 +30,19 @@ module _ (c : tie.In-Chain-2) where
   abbrev end : ChainEndOf
   end =
       record {
-        first = c.end-1.given.0.0;
-        length = c.end-1.given.0.1.0;
-        pages = c.end-1.given.0.1.1.0;
-        padded = c.end-1.given.0.1.1.1.0;
+        first = c.in-Chain.first;
+        length = c.in-Chain.length;
+        pages = c.in-Chain.pages;
+        padded = c.in-Chain.padded;
       }
 
   walked : (x : Chain) × (chain_at s at.args.last ≡ accepted x) × (chain_end_of false x ≡ end)
   walked =
-      let got = was_accepted (chain_end_of false) _ (sym c.before.before.chain_end-end.ensures ∙ ap chain_answer c.end-1.given.1) in
+      let got = was_accepted (chain_end_of false) _ (sym c.before.chain_end-end.ensures ∙ ap chain_answer c.in-Chain.is) in
       (got.0, was_sound _ got.1, got.2)
 
   left : PagesLeft s end.first end.pages walked.0.offs
-  left = chain_left false s at.args.last walked.0 end at.pre.within walked.1 walked.2
+  left = chain_left false s at.args.last walked.0 end at.requires.within walked.1 walked.2
 
   gives : (claims : List Block) → claim_content claims (soundly (content_at s (Extent at.args.last)))
       ≡ claim_all claims (page_blocks walked.0.offs)
@@ -59,14 +59,14 @@ enum_told-1 c = search rules
 
 returns-in_default : tie.Need-returns-in_default
 returns-in_default c units lent claims m =
-    let a = c.before.before.before.before.before.args in
+    let a = c.before.before.before.before.args in
     let s = body_ground a.body.now a.mark in
-    let stop = was_refused (chain_end_of false) _ (sym c.before.before.chain_end-end.ensures ∙ ap chain_answer c.enum_told-1.given.1) in
+    let stop = was_refused (chain_end_of false) _ (sym c.before.chain_end-end.ensures ∙ ap chain_answer c.in_default.is) in
     claims_unfit units a.mark lent _ claims _ m (content_unfit claims (content_at s (Extent a.last)) (content_no_pages s a.last
     (was_unsound _ stop).1))
 
 claim_pages-requires : tie.Need-claim_pages-requires
-claim_pages-requires c κs = let d = c.before.before in record { shown = (at d).requires.shown; offs = (walked d).0.offs; left = left d }
+claim_pages-requires c κs = let d = c.before in record { shown = (at d).requires.shown; offs = (walked d).0.offs; left = left d }
 
 shape_of-work : tie.Need-shape_of-work
 shape_of-work c = search rules
@@ -74,7 +74,7 @@ shape_of-work c = search rules
 returns : tie.Need-returns
 returns c units lent claims m =
     let p = c.before.before.claim_pages in
-    let d = c.before.before.before.before.before in
+    let d = c.before.before.before.before in
     let r = p.ensures (walked d).0.offs (left d) units lent claims m in
     record { claims = r.claims; shows = r.shows; told = gives d claims ∙ r.told; took = r.took }
 

@@ -59,14 +59,14 @@ module _ (t : tie.In-loop-off invariant_loop decreases_loop) where
   size = t.before.before.block_units-size.result
 
   more : off ≡ 0 → ⊥
-  more z = t.loop-off-test.taken z
+  more z = t.loop-off-test.true z
 
   long : at.args.mark ≤ 16 * length work
   long =
       let e = t.before.loop-off.invariant.same in
       let now = units_long t.before.loop-off.work in
       let then = units_long at.args.work.now in
-      let p = shown_long at.args.mark (units_of at.args.work.now) at.pre.shown in omega arith
+      let p = shown_long at.args.mark (units_of at.args.work.now) at.requires.shown in omega arith
 
 -- a block that stands below the mark
 module _ (c : tie.Else-not-is_block invariant_loop decreases_loop) where
@@ -74,7 +74,7 @@ module _ (c : tie.Else-not-is_block invariant_loop decreases_loop) where
   turn = c.before.before.before
 
   stands : is_block (at turn).args.class (off turn) (at turn).args.mark ≡ true
-  stands = sym c.before.is_Block.ensures ∙ not-false _ c.if-not-is_block.false
+  stands = sym c.before.is_block.ensures ∙ not-false _ c.if-not-is_block.false-raw
 
   some : 0 < left turn
   some = let n = c.before.before.if-left-eq0.false in omega arith
@@ -111,7 +111,7 @@ returns-then-not-is_block c free units lent claims m =
     list_strays units lent claims _ (s t free) (at t).args.class (off t) (left t) (work t) (taken t)
     (t.before.loop-off.invariant.goes free units lent claims m)
     (more t)
-    (let n = c.before.before.if-left-eq0.false in omega arith) (sym c.before.is_Block.ensures ∙ not-true _ c.if-not-is_block.true)
+    (let n = c.before.before.if-left-eq0.false in omega arith) (sym c.before.is_block.ensures ∙ not-true _ c.if-not-is_block.true-raw)
 
 claim_block-requires : tie.Need-claim_block-requires invariant_loop decreases_loop
 claim_block-requires c κs =
@@ -129,13 +129,13 @@ returns-then-not-claim_block c free units lent claims m =
     list_shared units lent claims _ (s t free) (at t).args.class (off t) (left t) (work t) (taken t)
     (t.before.loop-off.invariant.goes free units lent claims m)
     (more t) (some d) (stands d) _
-    b.ensures.list (sym b.ensures.free ∙ not-true _ c.if-not-claim_block.true)
+    b.ensures.list (sym b.ensures.free ∙ not-true _ c.if-not-claim_block.true-raw)
 
 get_u64-off-requires : tie.Need-get_u64-off-requires invariant_loop decreases_loop
 get_u64-off-requires c κs =
     let d = c.before.before.before.before.before in
     let t = turn d in
-    link_inside (at t).args.body.now (at t).args.mark (at t).args.class (off t) (at t).pre.within (stands d)
+    link_inside (at t).args.body.now (at t).args.mark (at t).args.class (off t) (at t).requires.within (stands d)
 
 overflow_sub-left : tie.Need-overflow_sub-left invariant_loop decreases_loop
 overflow_sub-left c = let n = some c.before.before.before.before.before.before in omega arith
@@ -152,19 +152,19 @@ module _ (c : tie.After-get_u64-off invariant_loop decreases_loop) where
       → Marked units (at here).args.mark lent claims (units_of (at here).args.work.now)
       → FreedGo units lent claims (claim_freed ((at here).args.mark / 16) (s here free) (at here).args.class claims (at here).args.head)
       (s here free) (at here).args.class c.get_u64-off.result (left here - 1)
-      (units_of c.before.before.before.before.claim_block.new.0)
+      (units_of c.before.before.before.before.claim_block.new.work)
       (taken here + size here)
   goes free units lent claims m =
       let b = c.before.before.before.before.claim_block in
       list_turn units lent claims _ (s here free) (at here).args.class (off here) (left here) (work here) (taken here)
       (here.before.loop-off.invariant.goes free units lent claims m) (more here) (some passed) (stands passed) _ b.ensures.list
-      c.get_u64-off.result c.get_u64-off.ensures (sym b.ensures.free ∙ not-false _ c.before.if-not-claim_block.false) (size here)
+      c.get_u64-off.result c.get_u64-off.ensures (sym b.ensures.free ∙ not-false _ c.before.if-not-claim_block.false-raw) (size here)
       here.before.before.block_units-size.ensures
 
 overflow_add-taken : tie.Need-overflow_add-taken invariant_loop decreases_loop
 overflow_add-taken c =
     let t = here c in
-    let w = (at t).pre.shown in
+    let w = (at t).requires.shown in
     let few = list_few w.units w.lent w.claims _ (s t []) (at t).args.class c.get_u64-off.result (left t - 1) _
     (taken t + size t) (goes c [] w.units w.lent w.claims w.shows) in
     omega arith

@@ -21,11 +21,11 @@ enum_told-1 c = search rules
 
 returns-in_default : tie.Need-returns-in_default
 returns-in_default c units lent claims m =
-    let a = c.before.before.before.before.before.args in
+    let a = c.before.before.before.before.args in
     claims_unfit units a.mark lent _ claims _ m
     (word_unfit claims (content (body_ground a.body.now a.mark) a.word)
-    (content_nowhere (body_ground a.body.now a.mark) a.word (sym c.before.before.unpack8-head.ensures
-    ∙ ap unpack_answer c.enum_told-1.given.1)))
+    (content_nowhere (body_ground a.body.now a.mark) a.word (sym c.before.unpack8-head.ensures
+    ∙ ap unpack_answer c.in_default.is)))
 
 claim_place-requires : tie.Need-claim_place-requires
 claim_place-requires c κs = search rules
@@ -35,15 +35,15 @@ shape_of-work c = search rules
 
 returns : tie.Need-returns
 returns c units lent claims m =
-    let g = c.before.before.before.before.before in
-    let a = g.before.before.before.before.before.args in
+    let g = c.before.before.before.before in
+    let a = g.before.before.before.before.args in
     let r = c.before.before.claim_place.ensures units lent claims m in
     record {
       claims = r.claims;
       shows = r.shows;
       told = ap (λ (x : Answer Content). claim_content claims x)
-          (content_at_lem (body_ground a.body.now a.mark) a.word g.head-1.given.0.0 (sym g.before.before.unpack8-head.ensures
-          ∙ ap unpack_answer g.head-1.given.1))
+          (content_at_lem (body_ground a.body.now a.mark) a.word g.in-Head.place (sym g.before.unpack8-head.ensures
+          ∙ ap unpack_answer g.in-Head.is))
           ∙ r.told;
       took = r.took;
     }

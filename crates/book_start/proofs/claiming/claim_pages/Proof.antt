@@ -54,7 +54,7 @@ module _ (t : tie.In-loop-left invariant_loop decreases_loop) where
   work = units_of t.before.loop-left.work
 
   more : 0 < t.before.loop-left.left
-  more = let h = t.loop-left-test.taken in omega arith
+  more = let h = t.loop-left-test.true in omega arith
 
   turn : PageTurn s off t.before.loop-left.left t.before.loop-left.invariant.offs
   turn = page_turn s off t.before.loop-left.left t.before.loop-left.invariant.offs more t.before.loop-left.invariant.rest
@@ -64,7 +64,7 @@ module _ (t : tie.In-loop-left invariant_loop decreases_loop) where
       let e = t.before.loop-left.invariant.same in
       let now = units_long t.before.loop-left.work in
       let then = units_long at.args.work.now in
-      let p = shown_long at.args.mark (units_of at.args.work.now) at.pre.shown in omega arith
+      let p = shown_long at.args.mark (units_of at.args.work.now) at.requires.shown in omega arith
 
 loop-left-init : tie.Need-loop-left-init invariant_loop decreases_loop
 loop-left-init c =
@@ -97,7 +97,7 @@ returns-then-not-claim_block c whole p units lent claims m =
     pages_shared units lent claims _ (s t) _ (off t) t.before.loop-left.left (work t)
     (t.before.loop-left.invariant.goes whole p units lent claims m)
     (more t) _
-    (sym b.ensures.free ∙ not-true _ c.if-not-claim_block.true) b.ensures.list
+    (sym b.ensures.free ∙ not-true _ c.if-not-claim_block.true-raw) b.ensures.list
 
 next_page-off-requires : tie.Need-next_page-off-requires invariant_loop decreases_loop
 next_page-off-requires c κs =
@@ -118,7 +118,7 @@ loop-left-preserved c =
     let b = c.before.before.before.before.claim_block in
     let next = c.next_page-off.result in
     let left = t.before.loop-left.left in
-    let free = sym b.ensures.free ∙ not-false _ c.before.if-not-claim_block.false in
+    let free = sym b.ensures.free ∙ not-false _ c.before.if-not-claim_block.false-raw in
     record {
       same = b.auto.0 ∙ t.before.loop-left.invariant.same;
       offs = (turn t).behind;

@@ -41,17 +41,17 @@ claim_chain-requires c κs = search rules
 
 returns-in-Empty : tie.Need-returns-in-Empty
 returns-in-Empty c units lent claims m =
-    let t = c.before.before.before.before in
+    let t = c.before.before.before in
     claims_nothing units t.args.mark lent _ claims _ m
-    (at_place t claims Empty c.enum_told-1.given.1 ∙ content_fit claims (content_at (s t) Empty) (content_empty (s t)))
+    (at_place t claims Empty c.in-Empty.is ∙ content_fit claims (content_at (s t) Empty) (content_empty (s t)))
 
 returns-in-Inline : tie.Need-returns-in-Inline
 returns-in-Inline c units lent claims m =
-    let t = c.before.before.before.before in
-    let entry = c.enum_told-in-Inline-1.given.0.0 in
-    let used = c.enum_told-in-Inline-1.given.0.1.0 in
+    let t = c.before.before.before in
+    let entry = c.in-Inline.entry in
+    let used = c.in-Inline.used in
     claims_nothing units t.args.mark lent _ claims _ m
-    (at_place t claims (Inline entry used) c.enum_told-in-Inline-1.given.1
+    (at_place t claims (Inline entry used) c.in-Inline.is
     ∙ content_fit claims (content_at (s t) (Inline entry used)) (content_inline (s t) entry used))
 
 shape_of-work-in-Slab : tie.Need-shape_of-work-in-Slab
@@ -59,20 +59,20 @@ shape_of-work-in-Slab c = search rules
 
 returns-in-Slab : tie.Need-returns-in-Slab
 returns-in-Slab c units lent claims m =
-    let p = c.before.before.before.before.before in
-    let t = p.before.before.before.before in
+    let p = c.before.before.before.before in
+    let t = p.before.before.before in
     let r = c.before.before.claim_slab.ensures units lent claims m in
-    record { claims = r.claims; shows = r.shows; told = at_place t claims _ p.place-1.given.1 ∙ r.told; took = r.took }
+    record { claims = r.claims; shows = r.shows; told = at_place t claims _ p.in-Slab.is ∙ r.told; took = r.took }
 
 shape_of-work-in-Extent : tie.Need-shape_of-work-in-Extent
 shape_of-work-in-Extent c = search rules
 
 returns-in-Extent : tie.Need-returns-in-Extent
 returns-in-Extent c units lent claims m =
-    let p = c.before.before.before.before.before in
-    let t = p.before.before.before.before in
+    let p = c.before.before.before.before in
+    let t = p.before.before.before in
     let r = c.before.before.claim_chain.ensures units lent claims m in
-    record { claims = r.claims; shows = r.shows; told = at_place t claims _ p.place-in-Extent-1.given.1 ∙ r.told; took = r.took }
+    record { claims = r.claims; shows = r.shows; told = at_place t claims _ p.in-Extent.is ∙ r.told; took = r.took }
 
 pub claim_place_spec : {M : Type 1} → statement M
 claim_place_spec =

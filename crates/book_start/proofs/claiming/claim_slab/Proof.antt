@@ -24,7 +24,7 @@ use Rattle.book_start.proofs.claiming.claim_slab.Tie as tie
 -- the slab was scanned
 module _ (c : tie.In-Scanned) where
   abbrev at : tie.Start
-  at = c.before.before.before.before.before
+  at = c.before.before.before.before
 
   abbrev s : Ground
   s = body_ground at.args.body.now at.args.mark
@@ -34,7 +34,7 @@ module _ (c : tie.In-Scanned) where
 
   scanned : (x : Scan) × (slab_scan s at.args.class at.args.used at.args.off ≡ accepted x)
   scanned =
-      let got = was_accepted (end_from 0) _ (sym c.before.before.slab_end-end.ensures ∙ ap scan_answer c.enum_told-1.given.1) in
+      let got = was_accepted (end_from 0) _ (sym c.before.slab_end-end.ensures ∙ ap scan_answer c.in-Scanned.is) in
       (got.0, was_sound _ got.1)
 
   sound : SoundSlab s at.args.class at.args.used at.args.off scanned.0
@@ -57,10 +57,10 @@ enum_told-in_default c = search rules
 
 returns-in_default : tie.Need-returns-in_default
 returns-in_default c units lent claims m =
-    let t = c.before.before.before.before.before in
+    let t = c.before.before.before.before in
     let a = t.args in
     let s = body_ground a.body.now a.mark in
-    let stop = was_refused (end_from 0) _ (sym c.before.before.slab_end-end.ensures ∙ ap scan_answer c.enum_told-in_default-1.given.1) in
+    let stop = was_refused (end_from 0) _ (sym c.before.slab_end-end.ensures ∙ ap scan_answer c.in_default.is) in
     claims_unfit units a.mark lent _ claims _ m
     (content_unfit claims (content_at s (Slab a.class a.used a.off)) (content_no_slab s a.class a.used a.off
     (was_unsound _ stop).1))
@@ -85,7 +85,7 @@ returns-then-not-claim_block c units lent claims m =
     let b = c.before.before.before.claim_block in
     one_shared units (at d).args.mark lent _ claims (units_of (at d).args.work.now) m (slab d) (sound d).stands (gives d claims) _
     b.ensures.list
-    (sym b.ensures.free ∙ not-true _ c.if-not-claim_block.true)
+    (sym b.ensures.free ∙ not-true _ c.if-not-claim_block.true-raw)
 
 block_units-requires : tie.Need-block_units-requires
 block_units-requires c κs = let k = (sound c.before.before.before.before.before).class_to_7 in omega arith
@@ -99,7 +99,7 @@ returns c units lent claims m =
     let b = c.before.before.before.before.claim_block in
     one_claimed units (at d).args.mark lent _ claims (units_of (at d).args.work.now) m (slab d) (sound d).stands (gives d claims) _
     b.ensures.list c.block_units.result c.block_units.ensures
-    (sym b.ensures.free ∙ not-false _ c.before.if-not-claim_block.false)
+    (sym b.ensures.free ∙ not-false _ c.before.if-not-claim_block.false-raw)
 
 pub claim_slab_spec : {M : Type 1} → statement M
 claim_slab_spec =

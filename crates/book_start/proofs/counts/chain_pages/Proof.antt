@@ -22,15 +22,15 @@ enum_told-1 c = search rules
 
 returns-in_default : tie.Need-returns-in_default
 returns-in_default c =
-    let a = c.before.before.before.before.args in
-    let stop = was_refused (chain_end_of false) _ (sym c.before.before.chain_end-end.ensures ∙ ap chain_answer c.enum_told-1.given.1) in
+    let a = c.before.before.before.args in
+    let stop = was_refused (chain_end_of false) _ (sym c.before.chain_end-end.ensures ∙ ap chain_answer c.in_default.is) in
     pages_unsound (body_ground a.body.now a.mark) a.last _ (was_unsound _ stop).1
 
 returns : tie.Need-returns
 returns c =
-    let d = c.before in
-    let a = d.before.before.before.before.args in
-    let got = was_accepted (chain_end_of false) _ (sym d.before.before.chain_end-end.ensures ∙ ap chain_answer d.end-1.given.1) in
+    let d = c in
+    let a = d.before.before.before.args in
+    let got = was_accepted (chain_end_of false) _ (sym d.before.chain_end-end.ensures ∙ ap chain_answer d.in-Chain.is) in
     sym (ap (λ (e : ChainEndOf). e.pages) got.2)
     ∙ pages_chain (body_ground a.body.now a.mark) a.last got.0 (was_sound _ got.1)
 

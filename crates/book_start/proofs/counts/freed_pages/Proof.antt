@@ -28,7 +28,7 @@ module _ (t : tie.In-loop-off invariant_loop decreases_loop) where
   off = t.before.loop-off.off
 
   more : off ≡ 0 → ⊥
-  more z = t.loop-off-test.taken z
+  more z = t.loop-off-test.true z
 
   next : (is_block page_class off at.args.mark ≡ true)
       × Follows at.args.body.now at.args.mark at.args.head (next_of at.args.body.now off) (t.before.loop-off.count + 1)

@@ -32,10 +32,10 @@ module _ (t : tie.Start) where
   book = let a = t.args in book_of a.body.now a.heads.now a.mark a.free.now a.counts.now
 
   shape : InShape book.space × (length book.heads ≤ most_heads)
-  shape = let s = shape_holds book.space (length book.heads) t.pre.blocks.shape in (s.0, s.2)
+  shape = let s = shape_holds book.space (length book.heads) t.requires.blocks.shape in (s.0, s.2)
 
   low : CountsLow (length book.space.body) book.counts
-  low = counts_low (length book.space.body) book.counts t.pre.low
+  low = counts_low (length book.space.body) book.counts t.requires.low
 
   small : SmallHeld book.counts
   small d h = let s = shape.0.most in let l = low.held d h in omega arith
@@ -43,7 +43,7 @@ module _ (t : tie.Start) where
 -- what the counts tell
 module _ (s : tie.After-sum_of_held) where
   abbrev at : tie.Start
-  at = s.before.before.before.before.before.before
+  at = s.before.before.before.before.before.before.before
 
   told : s.sum_of_held.result + s.before.to_be_had-had.result ≡ total (held_in (book at).counts) + to_be_had_in (book at)
   told = let h = s.sum_of_held.ensures in let b = s.before.to_be_had-had.ensures in omega arith
@@ -61,14 +61,14 @@ bounds-counts-0 c = search rules
 
 to_be_had-had-requires : tie.Need-to_be_had-had-requires
 to_be_had-had-requires c κs =
-    let t = c.before.before.before.before in
+    let t = c.before.before.before.before.before in
     let s = (shape t).0 in
     let m = s.most in
     let f = (low t).freed in
     (omega arith, s.within, m)
 
 sum_of_held-requires : tie.Need-sum_of_held-requires
-sum_of_held-requires c κs = small c.before.before.before.before.before
+sum_of_held-requires c κs = small c.before.before.before.before.before.before
 
 overflow_add-sum_of_held : tie.Need-overflow_add-sum_of_held
 overflow_add-sum_of_held c = omega (arith, few c)
@@ -89,42 +89,42 @@ bounds-free-8 c = search rules
 
 freed_pages-requires : tie.Need-freed_pages-requires
 freed_pages-requires c κs =
-    let t = at c.before.before in
+    let t = at c.before.before.before in
     record {
       within = (shape t).0.within;
-      ends = t.pre.blocks.ends page_class (omega arith);
-      stand = t.pre.blocks.stand page_class (omega arith);
+      ends = t.requires.blocks.ends page_class (omega arith);
+      stand = t.requires.blocks.stand page_class (omega arith);
     }
 
 returns-then-freed-freed_pages : tie.Need-returns-then-freed-freed_pages
 returns-then-freed-freed_pages c =
-    let s = c.before.before.before.before in
+    let s = c.before.before.before.before.before in
     let t = at s in
     let e = told s in
-    let h = c.before.before.before.if-size-sum_of_held.false in
+    let h = c.before.before.before.before.if-size-sum_of_held.false in
     ap accepted
     (sym (counts_freed (ds t) (book t) t.args.lost (omega arith)
     (λ f. let e = c.before.freed_pages.ensures in let n = c.if-freed-freed_pages.true in omega arith)))
 
 tally_pages-tally-requires : tie.Need-tally_pages-tally-requires
 tally_pages-tally-requires c κs =
-    let t = at c.before.before.before.before in
-    record { within = (shape t).0.within; most = (shape t).0.most; few = (shape t).1; named = t.pre.named }
+    let t = at c.before.before.before.before.before in
+    record { within = (shape t).0.within; most = (shape t).0.most; few = (shape t).1; named = t.requires.named }
 
 judge_desks-requires : tie.Need-judge_desks-requires
 judge_desks-requires c κs =
-    let t = at c.before.before.before.before.before in
+    let t = at c.before.before.before.before.before.before in
     let m = (shape t).0.most in
     λ d h. let r = (low t).reserve d h in omega arith
 
 returns : tie.Need-returns
 returns c =
     let y = c.before in
-    let s = y.before.before.before.before.before in
+    let s = y.before.before.before.before.before.before in
     let t = at s in
     let a = t.args in
     let e = told s in
-    let h = y.before.before.before.before.if-size-sum_of_held.false in
+    let h = y.before.before.before.before.before.if-size-sum_of_held.false in
     c.judge_desks.ensures (ds t) a.body.now a.heads.now a.mark a.free.now
     (y.tally_pages-tally.ensures a.free.now a.counts.now)
     ∙ ap (λ (n : ℕ). accepted (judge_desks (ds t) (book t) 0 desks

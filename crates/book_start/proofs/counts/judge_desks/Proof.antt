@@ -51,21 +51,21 @@ module _ (t : tie.In-loop-d invariant_loop decreases_loop) where
     abbrev book : Book
     book = book_of body heads mark free at.args.counts.now
 
-    module _ (tallied : Tallied ds book at.args.t2) where
+    module _ (tallied : Tallied ds book at.args.tally) where
       all : from ds book after d ≡ from ds book after 0
       all = t.before.loop-d.invariant.left ds body heads mark free tallied
 
-      known : desk_count d at.args.t2 ≡ pages_of_desk ds book d
-      known = tallied d t.loop-d-test.taken
+      known : desk_count d at.args.tally ≡ pages_of_desk ds book d
+      known = tallied d t.loop-d-test.true
 
 -- its count is true
 module _ (e : tie.Else-held-tally invariant_loop decreases_loop) where
   abbrev turn : tie.In-loop-d invariant_loop decreases_loop
-  turn = e.before.before.before
+  turn = e.before.before.before.before
 
-  exact : (ds body heads : List ℕ) (mark : ℕ) (free : List ℕ) → Tallied ds (book turn ds body heads mark free) (at turn).args.t2
+  exact : (ds body heads : List ℕ) (mark : ℕ) (free : List ℕ) → Tallied ds (book turn ds body heads mark free) (at turn).args.tally
       → held_count (d turn) (at turn).args.counts.now ≡ pages_of_desk ds (book turn ds body heads mark free) (d turn)
-  exact ds body heads mark free tallied = e.if-held-tally.left ∙ known turn ds body heads mark free tallied
+  exact ds body heads mark free tallied = e.if-held-tally.false ∙ known turn ds body heads mark free tallied
 
 -- the desks are judged
 module _ (f : tie.After-sum_of_lacks invariant_loop decreases_loop) where
@@ -76,12 +76,12 @@ module _ (f : tie.After-sum_of_lacks invariant_loop decreases_loop) where
   last = behind begun.args.counts.now begun.args.had begun.args.lost
 
   ends : (ds body heads : List ℕ) (mark : ℕ) (free : List ℕ)
-      → Tallied ds (book_of body heads mark free begun.args.counts.now) begun.args.t2
+      → Tallied ds (book_of body heads mark free begun.args.counts.now) begun.args.tally
       → last ≡ from ds (book_of body heads mark free begun.args.counts.now) last 0
   ends ds body heads mark free w =
       let l = f.before.before.loop-d in
-      let e : l.d ≡ desks = let n = l.inv.to_end in omega arith in
-      sym (desks_end ds (book_of body heads mark free begun.args.counts.now) last l.d e) ∙ l.inv.left ds body heads mark free w
+      let e : l.d ≡ desks = let n = l.invariant.to_end in omega arith in
+      sym (desks_end ds (book_of body heads mark free begun.args.counts.now) last l.d e) ∙ l.invariant.left ds body heads mark free w
 
 loop-d-init : tie.Need-loop-d-init invariant_loop decreases_loop
 loop-d-init c = record { to_end = omega arith; left = λ ds body heads mark free t. refl }
@@ -112,7 +112,7 @@ bounds-tally-d c = search rules
 
 returns-then-held-tally : tie.Need-returns-then-held-tally invariant_loop decreases_loop
 returns-then-held-tally c ds body heads mark free w =
-    let t = c.before.before.before in
+    let t = c.before.before.before.before in
     ap accepted
     (sym (desk_differs ds (book t ds body heads mark free) (after t) (d t) t.loop-d-test.true
     (λ e. c.if-held-tally.true (e ∙ sym (known t ds body heads mark free w))))
@@ -123,7 +123,7 @@ returns-then-ceiling-held c ds body heads mark free w =
     let e = c.before in
     let t = turn e in
     ap accepted
-    (sym (desk_high ds (book t ds body heads mark free) (after t) (d t) t.loop-d-test.taken
+    (sym (desk_high ds (book t ds body heads mark free) (after t) (d t) t.loop-d-test.true
     (exact e ds body heads mark free w) c.if-ceiling-held.true)
     ∙ all t ds body heads mark free w)
 
@@ -142,7 +142,7 @@ returns-then-ceiling-counts c ds body heads mark free w =
     let e = o.before in
     let t = turn e in
     ap accepted
-    (sym (desk_reserve ds (book t ds body heads mark free) (after t) (d t) t.loop-d-test.taken
+    (sym (desk_reserve ds (book t ds body heads mark free) (after t) (d t) t.loop-d-test.true
     (exact e ds body heads mark free w) o.if-ceiling-held.false c.if-ceiling-counts.true)
     ∙ all t ds body heads mark free w)
 
@@ -160,7 +160,7 @@ loop-d-preserved c =
       to_end = omega arith;
       left = λ ds body heads mark free w.
           let t = turn e in
-          sym (desk_good ds (book t ds body heads mark free) (after t) (d t) t.loop-d-test.taken
+          sym (desk_good ds (book t ds body heads mark free) (after t) (d t) t.loop-d-test.true
           (exact e ds body heads mark free w) o.if-ceiling-held.false c.if-ceiling-counts.false)
           ∙ all t ds body heads mark free w;
     }

@@ -30,8 +30,8 @@ bounds-counts-d c = search rules
 
 overflow_add-sum-in-loop-d : tie.Need-overflow_add-sum-in-loop-d invariant_loop decreases_loop
 overflow_add-sum-in-loop-d c =
-    let l = c.before.before.loop-d in
-    let small = c.before.before.before.requires l.d c.before.loop-d-test.true in
+    let l = c.before.before.before.loop-d in
+    let small = c.before.before.before.before.requires l.d c.before.before.loop-d-test.true in
     omega arith
 
 overflow_add-d : tie.Need-overflow_add-d invariant_loop decreases_loop
@@ -42,9 +42,9 @@ loop-d-smaller c = search rules
 
 loop-d-preserved : tie.Need-loop-d-preserved invariant_loop decreases_loop
 loop-d-preserved c =
-    let l = c.before.before.loop-d in
-    let start = c.before.before.before in
-    let small = start.requires l.d c.before.loop-d-test.true in
+    let l = c.before.before.before.loop-d in
+    let start = c.before.before.before.before in
+    let small = start.requires l.d c.before.before.loop-d-test.true in
     (search rules, sum_step (λ i. held_count i start.args.counts.now) l.d l.sum _ l.invariant.1 refl, omega arith)
 
 returns : tie.Need-returns invariant_loop decreases_loop

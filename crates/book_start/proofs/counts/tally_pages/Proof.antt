@@ -41,24 +41,24 @@ module _ (t : tie.In-loop-key invariant_loop decreases_loop) where
   book free counts = book_of at.args.body.now at.args.heads.now at.args.mark free counts
 
   long : length ds ≡ length at.args.heads.now
-  long = (list_good ds (length at.args.heads.now) at.pre.named).0
+  long = (list_good ds (length at.args.heads.now) at.requires.named).0
 
   desk : desk_of ds key < desks
-  desk = desk_in_lem ds (length at.args.heads.now) key at.pre.named t.loop-key-test.taken
+  desk = desk_in_lem ds (length at.args.heads.now) key at.requires.named t.loop-key-test.true
 
   few : (k : ℕ) → pages_held (book [] []) k ≤ 2 ^ 29
   few k =
       let p = pages_few (body_ground at.args.body.now at.args.mark) (get_or at.args.heads.now k 0) in
-      let w = at.pre.within in
-      let m = at.pre.most in
+      let w = at.requires.within in
+      let m = at.requires.most in
       omega arith
 
   small : desk_count (desk_of ds key) t.before.loop-key.tally ≤ 2 ^ 45
   small =
       let s = tally_small ds (book [] []) t.before.loop-key.tally key (t.before.loop-key.invariant.all [] []) (2 ^ 29) (desk_of ds key)
       few desk in
-      let h = at.pre.few in
-      let k = t.loop-key-test.taken in
+      let h = at.requires.few in
+      let k = t.loop-key-test.true in
       omega arith
 
   sixteen : length t.before.loop-key.tally ≡ desks

@@ -51,8 +51,8 @@ module _ (l : tie.At-loop-key invariant_loop decreases_loop) where
   lost = l.loop-key.lost
 
   -- what no claims lead to
-  go : KeysGo at.pre.units at.pre.lent (judge_keys s 0 heads []) s heads key work lost
-  go = l.loop-key.invariant.goes at.pre.units at.pre.lent at.pre.marked
+  go : KeysGo at.requires.units at.requires.lent (judge_keys s 0 heads []) s heads key work lost
+  go = l.loop-key.invariant.goes at.requires.units at.requires.lent at.requires.marked
 
 overflow_sub-lost : tie.Need-overflow_sub-lost invariant_loop decreases_loop
 overflow_sub-lost c = let f = c.before.before.before.before.requires.marked.from in omega arith
@@ -87,12 +87,12 @@ enum_known-got c = search rules
 
 overflow_sub-lost-in-Done : tie.Need-overflow_sub-lost-in-Done invariant_loop decreases_loop
 overflow_sub-lost-in-Done c =
-    let r = c.before.before.before.before.before.claim_key-got in
-    let t = c.before.before.before.before.before.before.before.before in
+    let r = c.before.before.before.claim_key-got in
+    let t = c.before.before.before.before.before.before in
     let l = t.before in
     let g = go l in
     let h = keys_took (at l).requires.units (at l).requires.lent _ (s l) (heads l) (key l) (work l) (lost l) g t.loop-key-test.true _ r.result
-    (r.ensures (at l).requires.units (at l).requires.lent g.claims g.shows) _ c.before.got-1.given.1 in
+    (r.ensures (at l).requires.units (at l).requires.lent g.claims g.shows) _ c.in-Done.is in
     omega arith
 
 enum_told-1 : tie.Need-enum_told-1 invariant_loop decreases_loop
@@ -103,13 +103,13 @@ shape_of-work-in-Unfit c = search rules
 
 returns-in-Unfit : tie.Need-returns-in-Unfit invariant_loop decreases_loop
 returns-in-Unfit c units lent m =
-    let r = c.before.before.before.before.claim_key-got in
-    let t = c.before.before.before.before.before.before.before in
+    let r = c.before.before.before.claim_key-got in
+    let t = c.before.before.before.before.before.before in
     let l = t.before in
     let g = l.loop-key.invariant.goes units lent m in
     keys_unsound units lent _ (s l) (heads l) (key l) (work l) (lost l) g t.loop-key-test.true _ r.result
     (r.ensures units lent g.claims g.shows)
-    c.enum_told-1.given.1
+    c.in-Unfit.is
 
 enum_told-in-Shared : tie.Need-enum_told-in-Shared invariant_loop decreases_loop
 enum_told-in-Shared c = search rules
@@ -119,13 +119,13 @@ shape_of-work-in-Shared c = search rules
 
 returns-in-Shared : tie.Need-returns-in-Shared invariant_loop decreases_loop
 returns-in-Shared c units lent m =
-    let r = c.before.before.before.before.claim_key-got in
-    let t = c.before.before.before.before.before.before.before in
+    let r = c.before.before.before.claim_key-got in
+    let t = c.before.before.before.before.before.before in
     let l = t.before in
     let g = l.loop-key.invariant.goes units lent m in
     keys_shared units lent _ (s l) (heads l) (key l) (work l) (lost l) g t.loop-key-test.true _ r.result
     (r.ensures units lent g.claims g.shows)
-    c.enum_told-in-Shared-1.given.1
+    c.in-Shared.is
 
 overflow_add-key : tie.Need-overflow_add-key invariant_loop decreases_loop
 overflow_add-key c = search rules
@@ -135,8 +135,8 @@ loop-key-smaller c = omega arith
 
 loop-key-preserved : tie.Need-loop-key-preserved invariant_loop decreases_loop
 loop-key-preserved c =
-    let r = c.before.before.before.before.before.claim_key-got in
-    let t = c.before.before.before.before.before.before.before.before in
+    let r = c.before.before.before.claim_key-got in
+    let t = c.before.before.before.before.before.before in
     let l = t.before in
     record {
       same = r.auto.1.1.0 ∙ l.loop-key.invariant.same;
@@ -145,7 +145,7 @@ loop-key-preserved c =
           let g = l.loop-key.invariant.goes units lent m in
           keys_turn units lent _ (s l) (heads l) (key l) (work l) (lost l) g t.loop-key-test.true _ r.result (r.ensures units lent
           g.claims g.shows)
-          _ c.before.got-1.given.1;
+          _ c.in-Done.is;
     }
 
 judge_lists-requires : tie.Need-judge_lists-requires invariant_loop decreases_loop

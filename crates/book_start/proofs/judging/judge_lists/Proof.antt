@@ -52,11 +52,11 @@ module _ (t : tie.In-loop-class invariant_loop decreases_loop) where
   lost = t.before.loop-class.lost
 
   -- what some claims lead to
-  go : ListsGo at.pre.units at.pre.lent (judge_lists s 0 free at.pre.claims) s class work lost
-  go = t.before.loop-class.invariant.goes at.pre.units at.pre.lent at.pre.claims at.pre.marked at.pre.leaves
+  go : ListsGo at.requires.units at.requires.lent (judge_lists s 0 free at.requires.claims) s class work lost
+  go = t.before.loop-class.invariant.goes at.requires.units at.requires.lent at.requires.claims at.requires.marked at.requires.leaves
 
   class_to_8 : class ≤ 8
-  class_to_8 = let e = at.pre.nine in let h = t.loop-class-test.taken in omega arith
+  class_to_8 = let e = at.requires.nine in let h = t.loop-class-test.true in omega arith
 
 loop-class-init : tie.Need-loop-class-init invariant_loop decreases_loop
 loop-class-init c =
@@ -90,11 +90,11 @@ enum_known-got c = search rules
 
 overflow_sub-lost : tie.Need-overflow_sub-lost invariant_loop decreases_loop
 overflow_sub-lost c =
-    let r = c.before.before.before.before.before.claim_freed-got in
-    let t = c.before.before.before.before.before.before.before.before in
+    let r = c.before.before.before.claim_freed-got in
+    let t = c.before.before.before.before.before.before in
     let g = go t in
     let h = lists_took (at t).requires.units (at t).requires.lent _ (s t) (class t) (work t) (lost t) g t.loop-class-test.true _ r.result
-    (r.ensures (free t) (at t).requires.units (at t).requires.lent g.claims g.shows) _ c.before.got-1.given.1 in
+    (r.ensures (free t) (at t).requires.units (at t).requires.lent g.claims g.shows) _ c.in-Done.is in
     omega arith
 
 enum_told-1 : tie.Need-enum_told-1 invariant_loop decreases_loop
@@ -105,12 +105,12 @@ shape_of-work-in-Unfit c = search rules
 
 returns-in-Unfit : tie.Need-returns-in-Unfit invariant_loop decreases_loop
 returns-in-Unfit c units lent claims m left =
-    let r = c.before.before.before.before.claim_freed-got in
-    let t = c.before.before.before.before.before.before.before in
+    let r = c.before.before.before.claim_freed-got in
+    let t = c.before.before.before.before.before.before in
     let g = t.before.loop-class.invariant.goes units lent claims m left in
     lists_strays units lent _ (s t) (class t) (work t) (lost t) g t.loop-class-test.true _ r.result
     (r.ensures (free t) units lent g.claims g.shows)
-    c.enum_told-1.given.1
+    c.in-Unfit.is
 
 enum_told-in-Shared : tie.Need-enum_told-in-Shared invariant_loop decreases_loop
 enum_told-in-Shared c = search rules
@@ -120,23 +120,23 @@ shape_of-work-in-Shared c = search rules
 
 returns-in-Shared : tie.Need-returns-in-Shared invariant_loop decreases_loop
 returns-in-Shared c units lent claims m left =
-    let r = c.before.before.before.before.claim_freed-got in
-    let t = c.before.before.before.before.before.before.before in
+    let r = c.before.before.before.claim_freed-got in
+    let t = c.before.before.before.before.before.before in
     let g = t.before.loop-class.invariant.goes units lent claims m left in
     lists_shared units lent _ (s t) (class t) (work t) (lost t) g t.loop-class-test.true _ r.result
     (r.ensures (free t) units lent g.claims g.shows)
-    c.enum_told-in-Shared-1.given.1
+    c.in-Shared.is
 
 overflow_add-class : tie.Need-overflow_add-class invariant_loop decreases_loop
-overflow_add-class c = let h = class_to_8 c.before.before.before.before.before.before.before.before in omega arith
+overflow_add-class c = let h = class_to_8 c.before.before.before.before.before.before in omega arith
 
 loop-class-smaller : tie.Need-loop-class-smaller invariant_loop decreases_loop
 loop-class-smaller c = omega arith
 
 loop-class-preserved : tie.Need-loop-class-preserved invariant_loop decreases_loop
 loop-class-preserved c =
-    let r = c.before.before.before.before.before.claim_freed-got in
-    let t = c.before.before.before.before.before.before.before.before in
+    let r = c.before.before.before.claim_freed-got in
+    let t = c.before.before.before.before.before.before in
     record {
       same = r.auto.1.1.0 ∙ t.before.loop-class.invariant.same;
       to_end = omega arith;
@@ -144,7 +144,7 @@ loop-class-preserved c =
           let g = t.before.loop-class.invariant.goes units lent claims m left in
           lists_turn units lent _ (s t) (class t) (work t) (lost t) g t.loop-class-test.true _ r.result (r.ensures (free t) units lent
           g.claims g.shows)
-          _ c.before.got-1.given.1;
+          _ c.in-Done.is;
     }
 
 shape_of-work : tie.Need-shape_of-work invariant_loop decreases_loop

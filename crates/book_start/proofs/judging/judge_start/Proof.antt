@@ -27,7 +27,7 @@ use Rattle.book_start.proofs.judging.judge_start.Tie as tie
 module _ (t : tie.Start) where
   -- the free heads, which are lent on
   abbrev free : List ℕ
-  free = t.args.t4
+  free = t.args.free
 
   abbrev ds : List ℕ
   ds = t.args.desks.now
@@ -68,13 +68,13 @@ module _ (e : tie.Else-work-bytes) where
   at = called e.before.before
 
   none : call_number (ds at) (book at) ≡ 0
-  none = sym (number e.before.before) ∙ e.before.if-number-ne0.left
+  none = sym (number e.before.before) ∙ e.before.if-number-ne0.false
 
   in_shape : InShape (book at).space
   in_shape = (shape_holds (book at).space (length (book at).heads) (judges_passed (ds at) (book at) (work at) none).0).0
 
   enough : bytes at ≤ length (work at)
-  enough = let h = e.if-work-bytes.left in omega arith
+  enough = let h = e.if-work-bytes.false in omega arith
 
   eight : 8 * bytes at ≡ units at
   eight = let p = in_shape.paged in omega arith
@@ -87,7 +87,7 @@ module _ (f : tie.After-fill_bytes) where
   abbrev passed : tie.Else-work-bytes
   passed = f.before.before
 
-  shows : Marked (units (at passed)) (mark (at passed)) (units_of (work (at passed))) [] (units_of f.fill_bytes.last.0)
+  shows : Marked (units (at passed)) (mark (at passed)) (units_of (work (at passed))) [] (units_of f.fill_bytes.new.work)
   shows =
       let t = at passed in
       let long = units_long (work t) in
@@ -108,13 +108,13 @@ module _ (z : tie.After-fill_bytes-2) where
   start = at (passed filled)
 
   judged : JudgesAs (units start) (mark start) (units_of (work start)) (blocks start) keys.judge_keys-got.result
-      (units_of keys.judge_keys-got.last.1.1.1.1.0)
+      (units_of keys.judge_keys-got.new.work)
   judged = keys.judge_keys-got.ensures (units start) (units_of (work start)) (shows filled)
 
   all : judges (ds start) (book start) (length (work start)) ≡ accepted (verdict_of (ds start) (book start))
   all = judges_all (ds start) (book start) (work start) (none (passed filled)) (enough (passed filled))
 
-  left : z.fill_bytes-2.last.0
+  left : z.fill_bytes-2.new.work
       ≡ work_after (bytes start) (work start) (judges (ds start) (book start) (length (work start)))
   left =
       z.fill_bytes-2.ensures ∙ cleared_is (bytes start) _

@@ -40,7 +40,7 @@ bounds-counts-d-in-loop-d c = search rules
 returns-then-counts-d : tie.Need-returns-then-counts-d invariant_loop decreases_loop
 returns-then-counts-d c =
     let t = c.before.before.before in
-    sym (over_yes t.before.before.args.counts.now t.before.loop-d.d t.loop-d-test.true c.if-counts-d.true)
+    sym (over_yes t.before.before.before.args.counts.now t.before.before.loop-d.d t.before.loop-d-test.true c.if-counts-d.true)
 
 overflow_add-d-in-loop-d-2 : tie.Need-overflow_add-d-in-loop-d-2 invariant_loop decreases_loop
 overflow_add-d-in-loop-d-2 c = search rules
@@ -51,8 +51,8 @@ loop-d-smaller c = search rules
 loop-d-preserved : tie.Need-loop-d-preserved invariant_loop decreases_loop
 loop-d-preserved c =
     let t = c.before.before.before in
-    let l = t.before.loop-d in
-    (search rules, over_step t.before.before.args.counts.now l.d t.loop-d-test.true l.invariant.1 c.if-counts-d.false)
+    let l = t.before.before.loop-d in
+    (search rules, over_step t.before.before.before.args.counts.now l.d t.before.loop-d-test.true l.invariant.1 c.if-counts-d.false)
 
 returns : tie.Need-returns invariant_loop decreases_loop
 returns c =

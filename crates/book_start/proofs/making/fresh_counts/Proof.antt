@@ -56,9 +56,9 @@ loop-d-smaller c = search rules
 loop-d-preserved : tie.Need-loop-d-preserved invariant_loop decreases_loop
 loop-d-preserved c =
     let t = c.before.before in
-    let l = t.before.loop-d in
-    let a = t.before.before.args in
-    (search rules, filled_next (limits_of a.reserve.now a.ceiling.now) l.words l.d l.invariant.1 t.loop-d-test.true)
+    let l = t.before.before.before.loop-d in
+    let a = t.before.before.before.before.args in
+    (search rules, filled_next (limits_of a.reserve.now a.ceiling.now) l.words l.d l.invariant.1 t.before.before.loop-d-test.true)
 
 returns : tie.Need-returns invariant_loop decreases_loop
 returns c =

@@ -25,7 +25,7 @@ module _ (k : tie.After-counts_high) where
   counts = at.args.counts.now
 
   unlike : out_of_shape at.args.size at.args.heads ≡ false
-  unlike = sym k.before.before.out_of_shape.ensures ∙ k.before.if-out_of_shape.left
+  unlike = sym k.before.before.out_of_shape.ensures ∙ k.before.if-out_of_shape.false
 
   high : (l : Limits) → counts ≡ fresh_counts l → counts_high at.args.size (fresh_counts l) ≡ k.counts_high.result
   high l is = ap (counts_high at.args.size) (sym is) ∙ sym k.counts_high.ensures
@@ -36,10 +36,10 @@ module _ (e : tie.Else-list_bad) where
   judged = e.before.before.before
 
   low : (l : Limits) → counts judged ≡ fresh_counts l → counts_high (at judged).args.size (fresh_counts l) ≡ false
-  low l is = high judged l is ∙ e.before.before.if-counts_high.left
+  low l is = high judged l is ∙ e.before.before.if-counts_high.false
 
   named : list_bad (at judged).args.desks.now (at judged).args.heads ≡ false
-  named = sym e.before.list_bad.ensures ∙ e.if-list_bad.left
+  named = sym e.before.list_bad.ensures ∙ e.if-list_bad.false
 
 -- and what is lacking
 module _ (s : tie.After-sum_of_lacks) (l : Limits) (is : counts (judged s.before) ≡ fresh_counts l) where

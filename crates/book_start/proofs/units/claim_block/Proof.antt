@@ -28,7 +28,7 @@ returns-then-class-eq-SH_PAGE_SLAB_CLASS : tie.Need-returns-then-class-eq-SH_PAG
 returns-then-class-eq-SH_PAGE_SLAB_CLASS c =
     let t = c.before.before.before.before.before.before in
     subst (λ (k : ℕ). BlockClaimed k t.args.off (units_of t.args.work.now) c.before.before.claim_page.result
-    (units_of c.before.before.claim_page.new.0))
+    (units_of c.before.before.claim_page.new.work))
     (sym c.before.before.before.before.if-class-eq-SH_PAGE_SLAB_CLASS.true) c.before.before.claim_page.ensures
 
 claim_units-requires : tie.Need-claim_units-requires

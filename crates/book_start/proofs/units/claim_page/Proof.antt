@@ -41,25 +41,25 @@ module _ (t : tie.Start) where
   off = t.args.off
 
   at_byte : 8 * (off / 128) ≡ off / 16
-  at_byte = omega (arith, t.pre.paged)
+  at_byte = omega (arith, t.requires.paged)
 
   inside : off / 128 + 32 ≤ length work
-  inside = omega (arith, t.pre.inside, t.pre.paged, units_long work)
+  inside = omega (arith, t.requires.inside, t.requires.paged, units_long work)
 
 bytes_free-requires : tie.Need-bytes_free-requires
-bytes_free-requires c κs = inside c.before.before
+bytes_free-requires c κs = inside c.before
 
 shape_of-work-then-not-bytes_free : tie.Need-shape_of-work-then-not-bytes_free
 shape_of-work-then-not-bytes_free c = search rules
 
 returns-then-not-bytes_free : tie.Need-returns-then-not-bytes_free
 returns-then-not-bytes_free c =
-    let t = c.before.before.before.before in
-    let free = sym (page_free (off t) (work t) (at_byte t)) ∙ sym c.before.bytes_free.ensures ∙ not-true _ c.if-not-bytes_free.true in
+    let t = c.before.before.before in
+    let free = sym (page_free (off t) (work t) (at_byte t)) ∙ sym c.before.bytes_free.ensures ∙ not-true _ c.if-not-bytes_free.true-raw in
     record { free = sym free; list = sym (claim_kept (block page_class (off t)) (units_of (work t)) free) }
 
 fill_bytes-requires : tie.Need-fill_bytes-requires
-fill_bytes-requires c κs = inside c.before.before.before.before.before
+fill_bytes-requires c κs = inside c.before.before.before.before
 
 shape_of-work : tie.Need-shape_of-work
 shape_of-work c = search rules
@@ -67,8 +67,8 @@ shape_of-work c = search rules
 returns : tie.Need-returns
 returns c =
     let e = c.before.before.before.before in
-    let t = e.before.before.before.before in
-    let free = sym (page_free (off t) (work t) (at_byte t)) ∙ sym e.before.bytes_free.ensures ∙ not-false _ e.if-not-bytes_free.false in
+    let t = e.before.before.before in
+    let free = sym (page_free (off t) (work t) (at_byte t)) ∙ sym e.before.bytes_free.ensures ∙ not-false _ e.if-not-bytes_free.false-raw in
     record {
       free = sym free;
       list = page_marked (off t) (work t) _ (at_byte t) c.before.before.fill_bytes.ensures

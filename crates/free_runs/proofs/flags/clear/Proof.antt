@@ -33,7 +33,7 @@ loop-i-smaller c = omega arith
 
 loop-i-preserved : tie.Need-loop-i-preserved invariant_loop decreases_loop
 loop-i-preserved c =
-    let l = c.before.loop-i in
+    let l = c.before.before.loop-i in
     let e = l.invariant.long in
     record {
       inside = omega arith;

@@ -32,7 +32,7 @@ is_page-requires c κs = search rules
 returns-then-not-is_page : tie.Need-returns-then-not-is_page invariant_loop decreases_loop
 returns-then-not-is_page c =
     let l = c.before.before.before.loop-left in
-    let stray = sym c.before.is_page.ensures ∙ not-true _ c.if-not-is_page.true in
+    let stray = sym c.before.is_page.ensures ∙ not-true _ c.if-not-is_page.true-raw in
     let all = sym (ends_strays _ _ l.left l.at (omega arith) stray) ∙ l.invariant.tells in
     record { passed = all; marks = λ e. absurd (true≢false (sym e ∙ sym all)); long = l.invariant.going.long }
 
@@ -48,7 +48,7 @@ module _ (c : tie.Else-not-is_page invariant_loop decreases_loop) where
   first = here.before.before
 
   stands : Standing 8 here.loop-left.at first.args.mark
-  stands = block_stands 8 _ _ (sym c.before.is_page.ensures ∙ not-false _ c.if-not-is_page.false)
+  stands = block_stands 8 _ _ (sym c.before.is_page.ensures ∙ not-false _ c.if-not-is_page.false-raw)
 
 get_u64-at-requires : tie.Need-get_u64-at-requires invariant_loop decreases_loop
 get_u64-at-requires c κs =
@@ -68,12 +68,12 @@ loop-left-preserved c =
     let d = c.before.before.before in
     let l = (here d).loop-left in
     let a = (first d).args in
-    let yes = sym d.before.is_page.ensures ∙ not-false _ d.if-not-is_page.false in
+    let yes = sym d.before.is_page.ensures ∙ not-false _ d.if-not-is_page.false-raw in
     rw c.get_u64-at.ensures
     (record {
-      tells = sym (ends_step a.mark a.body.now l.left l.at (omega arith) yes) ∙ l.inv.tells;
+      tells = sym (ends_step a.mark a.body.now l.left l.at (omega arith) yes) ∙ l.invariant.tells;
       going = going_on _ _ _ _ l.words _ l.at _ l.next _ (stands d).aligned
-          (rw (walked_step a.mark a.body.now l.left l.at (omega arith)) at l.inv.going) c.before.flag_page-next.ensures;
+          (rw (walked_step a.mark a.body.now l.left l.at (omega arith)) at l.invariant.going) c.before.flag_page-next.ensures;
     })
 
 returns : tie.Need-returns invariant_loop decreases_loop

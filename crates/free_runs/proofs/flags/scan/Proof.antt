@@ -40,7 +40,7 @@ empty words from end page os f l e to h k p m n =
 -- a flag that is set
 module _ (c : tie.Then-rest-eq1 invariant_loop decreases_loop) where
   abbrev here : tie.At-loop-page invariant_loop decreases_loop
-  here = c.before.before.before.before
+  here = c.before.before.before.before.before
 
   abbrev first : tie.Start invariant_loop decreases_loop
   first = here.before
@@ -76,8 +76,8 @@ loop-page-smaller-then-rest-eq0 c = omega arith
 loop-page-preserved-then-rest-eq0 : tie.Need-loop-page-preserved-then-rest-eq0 invariant_loop decreases_loop
 loop-page-preserved-then-rest-eq0 c =
     let h = c.before.before.before.before in
-    let l = h.loop-page in
-    let a = h.before.args in
+    let l = h.before.loop-page in
+    let a = h.before.before.args in
     let e = c.lower-page.ensures in
     record {
       low = omega arith;
@@ -102,7 +102,7 @@ returns-then-page-start c os f s =
     let a = (first c.before).args in
     let yes = sym (told a.words.now a.from a.end l.page os 1 f (omega arith) (omega arith)
     (omega (arith, c.before.if-rest-eq1.true))) in
-    sought_found a.pages (l.page + 1) l.start os (sought_freed a.pages l.page l.start os (l.inv.sought os f s) yes)
+    sought_found a.pages (l.page + 1) l.start os (sought_freed a.pages l.page l.start os (l.invariant.sought os f s) yes)
     a.end (omega arith) (omega arith)
 
 loop-page-smaller-else-page-start : tie.Need-loop-page-smaller-else-page-start invariant_loop decreases_loop
@@ -117,7 +117,7 @@ loop-page-preserved-else-page-start c =
       high = omega arith;
       goes_on = record { some_pages = omega arith; begun = omega arith; short = omega arith };
       sought = λ os f s.
-          sought_freed a.pages l.page l.start os (l.inv.sought os f s)
+          sought_freed a.pages l.page l.start os (l.invariant.sought os f s)
           (sym (told a.words.now a.from a.end l.page os 1 f (omega arith) (omega arith)
           (omega (arith, c.before.if-rest-eq1.true))));
     }
@@ -128,8 +128,8 @@ loop-page-smaller c = omega arith
 loop-page-preserved : tie.Need-loop-page-preserved invariant_loop decreases_loop
 loop-page-preserved c =
     let h = c.before.before.before.before in
-    let l = h.loop-page in
-    let a = h.before.args in
+    let l = h.before.loop-page in
+    let a = h.before.before.args in
     record {
       low = omega arith;
       high = omega arith;

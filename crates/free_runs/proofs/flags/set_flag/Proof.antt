@@ -31,7 +31,7 @@ bit_fits b h =
 returns : tie.Need-returns
 unfolding set_flag
 returns c =
-    let a = c.before.args in
+    let a = c.before.before.args in
     ap (λ (b : ℕ). set a.words.now (a.i / 64) (bit_or (get_or a.words.now (a.i / 64) 0) b)) (bit_fits (a.i % 64) (omega arith))
 
 pub set_flag_spec : {M : Type 1} → statement M

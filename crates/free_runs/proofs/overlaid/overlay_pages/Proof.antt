@@ -40,7 +40,7 @@ is_page-requires c κs = search rules
 returns-then-not-is_page : tie.Need-returns-then-not-is_page invariant_loop decreases_loop
 returns-then-not-is_page c =
     let l = c.before.before.before.loop-left in
-    let stray = sym c.before.is_page.ensures ∙ not-true _ c.if-not-is_page.true in
+    let stray = sym c.before.is_page.ensures ∙ not-true _ c.if-not-is_page.true-raw in
     let all = sym (ends_strays _ _ l.left l.at (omega arith) stray) ∙ l.invariant.tells in
     record { passed = all; overlays = λ e. absurd (true≢false (sym e ∙ sym all)); long = l.invariant.going.long }
 
@@ -50,7 +50,7 @@ set_flag-requires c κs = search rules
 get_u64-at-requires : tie.Need-get_u64-at-requires invariant_loop decreases_loop
 get_u64-at-requires c κs =
     let d = c.before.before in
-    let yes = sym d.before.is_page.ensures ∙ not-false _ d.if-not-is_page.false in
+    let yes = sym d.before.is_page.ensures ∙ not-false _ d.if-not-is_page.false-raw in
     let s = (block_stands 8 (here d).loop-left.at _ yes).ends in
     let p = (first d).requires.within in
     omega arith
@@ -66,16 +66,16 @@ loop-left-preserved c =
     let d = c.before.before.before in
     let l = (here d).loop-left in
     let a = (first d).args in
-    let yes = sym d.before.is_page.ensures ∙ not-false _ d.if-not-is_page.false in
+    let yes = sym d.before.is_page.ensures ∙ not-false _ d.if-not-is_page.false-raw in
     let os = walked a.count a.body.now a.head in
     rw c.get_u64-at.ensures
     (record {
-      tells = sym (ends_step a.mark a.body.now l.left l.at (omega arith) yes) ∙ l.inv.tells;
+      tells = sym (ends_step a.mark a.body.now l.left l.at (omega arith) yes) ∙ l.invariant.tells;
       going = subst
           (λ (w : List ℕ). Overlaying os a.words.now w (walked (l.left - 1) a.body.now (next_of a.body.now l.at)))
           (sym c.before.set_flag.ensures)
           (overlaying_one _ _ l.words l.at _ (rw (walked_step a.mark a.body.now l.left l.at (omega arith)) at
-          l.inv.going));
+          l.invariant.going));
     })
 
 returns : tie.Need-returns invariant_loop decreases_loop

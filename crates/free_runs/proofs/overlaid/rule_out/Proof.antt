@@ -22,23 +22,23 @@ module _ (c : tie.Else-not-overlay_pages) where
   os = walked at.args.count at.args.body.now at.args.head
 
   passes : pages_end at.args.mark at.args.count at.args.body.now at.args.head ≡ true
-  passes = sym walk.overlay_pages.ensures.passed ∙ not-false _ c.if-not-overlay_pages.false
+  passes = sym walk.overlay_pages.ensures.passed ∙ not-false _ c.if-not-overlay_pages.false-raw
 
 -- The flags were searched once.
 module _ (c : tie.After-scan-first) where
   abbrev passed : tie.Else-not-overlay_pages
-  passed = c.before.before.before
+  passed = c.before.before
 
   once : Sought (at passed).args.pages window_pages c.scan-first.result (twice (os passed))
   once =
       c.scan-first.ensures (twice (os passed))
-      (flags_first (os passed) _ _ (at passed).pre.unset ((walk passed).overlay_pages.ensures.overlays (passes passed)))
+      (flags_first (os passed) _ _ (at passed).requires.unset ((walk passed).overlay_pages.ensures.overlays (passes passed)))
       (sought_none _ _)
 
 -- And once more.
 module _ (c : tie.After-scan-second) where
   abbrev first : tie.After-scan-first
-  first = c.before.before.before
+  first = c.before.before
 
   abbrev judged : tie.Else-not-overlay_pages
   judged = passed first
@@ -46,7 +46,7 @@ module _ (c : tie.After-scan-second) where
   again : Sought (at judged).args.pages (2 * window_pages) c.scan-second.result (twice (os judged))
   again =
       c.scan-second.ensures (twice (os judged))
-      (flags_second (os judged) _ _ (at judged).pre.unset ((walk judged).overlay_pages.ensures.overlays (passes judged)))
+      (flags_second (os judged) _ _ (at judged).requires.unset ((walk judged).overlay_pages.ensures.overlays (passes judged)))
       (once first)
 
 overlay_pages-requires : tie.Need-overlay_pages-requires
@@ -55,7 +55,7 @@ overlay_pages-requires c κs = search rules
 returns-then-not-overlay_pages : tie.Need-returns-then-not-overlay_pages
 returns-then-not-overlay_pages c =
     let f = c.before.overlay_pages.ensures in
-    record { passed = sym (not-true _ c.if-not-overlay_pages.true) ∙ f.passed; rules = λ e z. absurd (true≢false (sym z)); long = f.long }
+    record { passed = sym (not-true _ c.if-not-overlay_pages.true-raw) ∙ f.passed; rules = λ e z. absurd (true≢false (sym z)); long = f.long }
 
 returns-then-pages-gt-WINDOW : tie.Need-returns-then-pages-gt-WINDOW
 returns-then-pages-gt-WINDOW c =
@@ -78,11 +78,11 @@ overflow_mul-scan c = search rules
 
 scan-second-requires : tie.Need-scan-second-requires
 scan-second-requires c κs =
-    let s = c.before.before in
+    let s = c.before in
     let l = (once s).at in
     record {
       to_scan = record {
-        to_go_on = record { some_pages = (at (passed s)).pre.some_pages; begun = l; short = omega arith };
+        to_go_on = record { some_pages = (at (passed s)).requires.some_pages; begun = l; short = omega arith };
         forward = omega arith;
         small = omega arith;
       };
@@ -103,9 +103,9 @@ returns c =
       passed = sym (passes p);
       rules = λ e z.
           let short : 2 * window_pages - c.scan-second.result < t.args.pages = ltb-true _ _ z in
-          lowest_missed t.args.pages (os p) t.pre.some_pages
+          lowest_missed t.args.pages (os p) t.requires.some_pages
           (ruled_out t.args.mark t.args.pages c.scan-second.result (os p)
-          (walked_pages t.args.mark t.args.body.now t.args.count t.args.head (passes p)) t.pre.some_pages
+          (walked_pages t.args.mark t.args.body.now t.args.count t.args.head (passes p)) t.requires.some_pages
           (omega arith) (again c) (omega arith));
       long = (walk p).overlay_pages.ensures.long;
     }

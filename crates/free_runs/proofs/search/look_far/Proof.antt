@@ -19,7 +19,7 @@ scan_kept-first-requires c κs = search rules
 
 returns : tie.Need-returns
 returns c =
-    let k = c.before.before.before in
+    let k = c.before.before in
     let t = k.before.before.before in
     let a = t.args in
     let got = k.collect-got.ensures in

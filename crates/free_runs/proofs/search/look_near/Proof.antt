@@ -16,7 +16,7 @@ module _ (c : tie.After-lower-end) where
 -- Its flags were searched.
 module _ (c : tie.After-scan-first) where
   abbrev ended : tie.After-lower-end
-  ended = c.before.before.before.before
+  ended = c.before.before.before
 
 clear-requires : tie.Need-clear-requires
 clear-requires c κs = search rules
@@ -35,11 +35,11 @@ scan-first-requires c κs = search rules
 
 returns : tie.Need-returns
 returns c =
-    let f = c.before.before.flag_pages-got.ensures in
+    let f = c.before.flag_pages-got.ensures in
     let s = ended c in
     let a = (first s).args in
     let e = s.lower-end.ensures in
-    let p = (first s).pre.below in
+    let p = (first s).requires.below in
     record {
       passed = f.passed;
       looks = λ passes.

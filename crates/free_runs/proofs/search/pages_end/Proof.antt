@@ -22,13 +22,13 @@ is_page-requires c κs = search rules
 returns-then-not-is_page : tie.Need-returns-then-not-is_page invariant_loop decreases_loop
 returns-then-not-is_page c =
     let l = c.before.before.before.loop-left in
-    let no : _ = sym c.before.is_page.ensures ∙ not-true _ c.if-not-is_page.true in
+    let no : _ = sym c.before.is_page.ensures ∙ not-true _ c.if-not-is_page.true-raw in
     sym (ends_strays _ _ l.left l.at (omega arith) no) ∙ l.invariant
 
 get_u64-at-requires : tie.Need-get_u64-at-requires invariant_loop decreases_loop
 get_u64-at-requires c κs =
     let h = c.before.before.before in
-    let yes = sym c.before.is_page.ensures ∙ not-false _ c.if-not-is_page.false in
+    let yes = sym c.before.is_page.ensures ∙ not-false _ c.if-not-is_page.false-raw in
     let s = (block_stands 8 h.loop-left.at _ yes).ends in
     let p = h.before.before.requires in
     omega arith
@@ -42,7 +42,7 @@ loop-left-smaller c = omega arith
 loop-left-preserved : tie.Need-loop-left-preserved invariant_loop decreases_loop
 loop-left-preserved c =
     let l = c.before.before.before.before.loop-left in
-    let yes = sym c.before.before.is_page.ensures ∙ not-false _ c.before.if-not-is_page.false in
+    let yes = sym c.before.before.is_page.ensures ∙ not-false _ c.before.if-not-is_page.false-raw in
     rw c.get_u64-at.ensures (sym (ends_step _ _ l.left l.at (omega arith) yes) ∙ l.invariant)
 
 returns : tie.Need-returns invariant_loop decreases_loop

@@ -107,9 +107,9 @@ returns-then-end-first c =
     let t = at d in
     let s = (sought d).at in
     sym (run_found_lem t.args.mark t.args.count t.args.body.now t.args.head t.args.pages (passes d)
-    ∙ ap (λ (r : Option ℕ). accepted r) (lowest_is t.args.pages (os d) t.pre.to_seek.some_pages (first d * 4096)
+    ∙ ap (λ (r : Option ℕ). accepted r) (lowest_is t.args.pages (os d) t.requires.to_seek.some_pages (first d * 4096)
     (sought_lowest t.args.mark t.args.pages (end d) (first d) (os d)
-    (walked_pages t.args.mark t.args.body.now t.args.count t.args.head (passes d)) t.pre.to_seek.some_pages
+    (walked_pages t.args.mark t.args.body.now t.args.count t.args.head (passes d)) t.requires.to_seek.some_pages
     (sought d) (omega arith))))
 
 loop-from-smaller-then-end-next : tie.Need-loop-from-smaller-then-end-next invariant_loop decreases_loop
@@ -122,7 +122,7 @@ loop-from-preserved-then-end-next c =
     let s = (sought d).at in
     let m = (looks d).limit in
     let e = (looks d).more in
-    let some = t.pre.to_seek.some_pages in
+    let some = t.requires.to_seek.some_pages in
     record {
       inside = m;
       goes_on = record { some_pages = some; begun = omega arith; short = omega arith };

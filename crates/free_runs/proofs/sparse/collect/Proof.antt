@@ -42,8 +42,8 @@ get_u64-at-requires : tie.Need-get_u64-at-requires invariant_loop decreases_loop
 get_u64-at-requires c κs =
     let l = (here c).loop-left in
     let t = first c in
-    let s = (ends_page t.args.mark t.args.body.now l.left l.at (omega arith) l.inv.passes).0.ends in
-    let p = t.pre.judged.within in
+    let s = (ends_page t.args.mark t.args.body.now l.left l.at (omega arith) l.invariant.passes).0.ends in
+    let p = t.requires.judged.within in
     omega arith
 
 overflow_sub-left : tie.Need-overflow_sub-left invariant_loop decreases_loop
@@ -56,12 +56,12 @@ loop-left-preserved : tie.Need-loop-left-preserved invariant_loop decreases_loop
 loop-left-preserved c =
     let l = (here c.before).loop-left in
     let a = (first c.before).args in
-    let s = ends_page a.mark a.body.now l.left l.at (omega arith) l.inv.passes in
+    let s = ends_page a.mark a.body.now l.left l.at (omega arith) l.invariant.passes in
     rw c.get_u64-at.ensures
     (record {
       passes = s.1;
       going = collect_one _ _ _ l.kept _ l.taken _ l.to _ l.at _ s.0.aligned
-          (rw (walked_step a.mark a.body.now l.left l.at (omega arith)) at l.inv.going) c.before.keep-got.ensures;
+          (rw (walked_step a.mark a.body.now l.left l.at (omega arith)) at l.invariant.going) c.before.keep-got.ensures;
     })
 
 returns : tie.Need-returns invariant_loop decreases_loop

@@ -41,7 +41,7 @@ loop-i-smaller-then-page-end c = omega arith
 
 loop-i-preserved-then-page-end : tie.Need-loop-i-preserved-then-page-end invariant_loop decreases_loop
 loop-i-preserved-then-page-end c =
-    let l = c.before.before.before.loop-i in
+    let l = c.before.before.before.before.loop-i in
     record { inside = omega arith; sifting = sift_keeps _ _ _ _ _ l.invariant.sifting (omega arith) }
 
 loop-i-smaller : tie.Need-loop-i-smaller invariant_loop decreases_loop
@@ -49,7 +49,7 @@ loop-i-smaller c = omega arith
 
 loop-i-preserved : tie.Need-loop-i-preserved invariant_loop decreases_loop
 loop-i-preserved c =
-    let l = c.before.before.before.loop-i in
+    let l = c.before.before.before.before.loop-i in
     record { inside = omega arith; sifting = sift_drops _ _ _ _ _ l.invariant.sifting (omega arith) }
 
 returns : tie.Need-returns invariant_loop decreases_loop
@@ -57,7 +57,7 @@ returns c =
     let l = c.before.loop-i in
     let a = c.before.before.args in
     let z : l.i ≡ a.count = omega arith in
-    sift_done _ _ _ _ _ (subst (λ (i : ℕ). Sifting a.end a.kept.now l.auto i l.stay) z l.invariant.sifting)
+    sift_done _ _ _ _ _ (subst (λ (i : ℕ). Sifting a.end a.kept.now l.kept i l.stay) z l.invariant.sifting)
 
 pub drop_behind_spec : {M : Type 1} → statement M
 drop_behind_spec =

@@ -33,8 +33,8 @@ module _ (c : tie.After-make_room-got) where
 
 returns-then-page-limit : tie.Need-returns-then-page-limit
 returns-then-page-limit c =
-    let m = c.before.make_room-got.ensures in
-    let long = m.keeps.long ∙ (first c.before).pre.places.long in
+    let m = c.before.before.make_room-got.ensures in
+    let long = m.keeps.long ∙ (first c.before.before).requires.places.long in
     let few = m.free in
     one_inside _ _ _ _ _ _ _ _ (omega arith) few m.keeps
 

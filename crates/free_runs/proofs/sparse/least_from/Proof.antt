@@ -51,8 +51,8 @@ loop-i-smaller c = omega arith
 loop-i-preserved : tie.Need-loop-i-preserved invariant_loop decreases_loop
 loop-i-preserved c =
     let h = c.before.before.before.before in
-    let l = h.loop-i in
-    let a = h.before.args in
+    let l = h.before.loop-i in
+    let a = h.before.before.args in
     let w = c.before.wrapping_sub_u64-ahead in
     let e = c.lower-least.ensures in
     record {

@@ -35,7 +35,7 @@ module _ (c : tie.In-loop-left invariant_loop decreases_loop) where
   here = c.before
 
   abbrev s : tie.Start invariant_loop decreases_loop
-  s = here.before.before.before.before
+  s = here.before.before.before
 
   abbrev at : ℕ
   at = here.loop-left.at
@@ -59,32 +59,32 @@ module _ (c : tie.In-loop-left invariant_loop decreases_loop) where
   inside = let e = (ends_page s.args.mark body left at more inv.passes).0.ends in let w = within in omega arith
 
 pass_over-first-requires : tie.Need-pass_over-first-requires invariant_loop decreases_loop
-pass_over-first-requires c κs = asked c.before.before
+pass_over-first-requires c κs = asked c.before
 
 loop-left-init : tie.Need-loop-left-init invariant_loop decreases_loop
 loop-left-init c =
     let s = c.pass_over-first.ensures in
-    let a = c.before.before.before.args in
+    let a = c.before.before.args in
     record { long = refl; passes = s.ends; stays = s.stays; links = ap (λ (os : List ℕ). relinked os a.body.now) s.same }
 
 get_u64-link-requires : tie.Need-get_u64-link-requires invariant_loop decreases_loop
-get_u64-link-requires c κs = inside c.before
+get_u64-link-requires c κs = inside c
 
 overflow_sub-left : tie.Need-overflow_sub-left invariant_loop decreases_loop
 overflow_sub-left c = omega arith
 
 pass_over-over-requires : tie.Need-pass_over-over-requires invariant_loop decreases_loop
 pass_over-over-requires c κs =
-    let t = c.before.before.before in
+    let t = c.before in
     record {
       within = within t;
-      passes = rw c.before.get_u64-link.ensures (ends_page _ _ (left t) (at t) (more t) (inv t).passes).1;
+      passes = rw c.get_u64-link.ensures (ends_page _ _ (left t) (at t) (more t) (inv t).passes).1;
     }
 
 relink-requires : tie.Need-relink-requires invariant_loop decreases_loop
 relink-requires c κs =
-    let g = c.before.before.before in
-    record { inside = inside g.before.before; link_is = g.get_u64-link.ensures }
+    let g = c.before.before in
+    record { inside = inside g.before; link_is = g.get_u64-link.ensures }
 
 -- a turn
 module _ (c : tie.After-slice_known-in-loop-left-1 invariant_loop decreases_loop) where
@@ -92,7 +92,7 @@ module _ (c : tie.After-slice_known-in-loop-left-1 invariant_loop decreases_loop
   gone = c.before.before.before.before
 
   abbrev turn : tie.In-loop-left invariant_loop decreases_loop
-  turn = gone.before.before.before.before
+  turn = gone.before.before
 
   abbrev to : ℕ
   to = gone.pass_over-over.result.at
@@ -104,7 +104,7 @@ module _ (c : tie.After-slice_known-in-loop-left-1 invariant_loop decreases_loop
       to rest
   over =
       subst (λ (o : ℕ). PassedOver (s turn).args.mark (body turn) (s turn).args.from (s turn).args.end o (left turn - 1) to rest)
-      gone.before.before.get_u64-link.ensures gone.pass_over-over.ensures
+      gone.before.get_u64-link.ensures gone.pass_over-over.ensures
 
 loop-left-smaller : tie.Need-loop-left-smaller invariant_loop decreases_loop
 loop-left-smaller c = let f = (over c).fewer in let m = more (turn c) in omega arith

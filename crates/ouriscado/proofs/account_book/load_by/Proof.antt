@@ -15,7 +15,7 @@ use Rattle.ouriscado.proofs.account_book.load_by.Tie as tie
 -- the book, and its load by a desk
 module _ (j : tie.After-judge_call-refusal) where
   abbrev start : tie.Start
-  start = j.before.before.before.before.before.before.before.before
+  start = j.before.before.before.before.before.before
 
   abbrev lent : List ℕ
   lent = start.args.desks.now

@@ -15,7 +15,7 @@ use Rattle.ouriscado.proofs.account_extend.ouriscado_book_extend.Tie as tie
 -- the book, and its extend by a desk
 module _ (j : tie.After-judge_call-number) where
   abbrev start : tie.Start
-  start = j.before.before.before.before.before.before.before.before
+  start = j.before.before.before.before.before.before
 
   abbrev lent : List ℕ
   lent = start.args.desks.now

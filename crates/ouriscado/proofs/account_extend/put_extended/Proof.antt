@@ -24,7 +24,7 @@ put_head-requires-in-Refused c κs = search rules
 returns-in-Extended : tie.Need-returns-in-Extended
 returns-in-Extended c =
     let h = c.put_head.ensures in
-    let yes = ap extend_answer c.before.before.before.before.before.before.answer-1.given.1 in (
+    let yes = ap extend_answer c.before.before.before.before.before.in-Extended.is in (
       h.0 ∙ number_accepted yes,
       (
         value_accepted numbers_accepted _ yes,
@@ -50,7 +50,7 @@ returns-in-Extended c =
 returns-in-Refused : tie.Need-returns-in-Refused
 returns-in-Refused c =
     let h = c.put_head-in-Refused.ensures in
-    let no = ap extend_answer c.before.before.before.before.before.before.answer-in-Refused-1.given.1 in (
+    let no = ap extend_answer c.before.before.before.before.before.in-Refused.is in (
       h.0 ∙ number_refused no,
       (
         value_refused numbers_accepted _ no,

@@ -24,7 +24,7 @@ put_head-requires-in-Refused c κs = search rules
 returns-in-Appended : tie.Need-returns-in-Appended
 returns-in-Appended c =
     let h = c.put_head.ensures in
-    let yes = ap append_answer c.before.before.before.before.before.before.answer-1.given.1 in (
+    let yes = ap append_answer c.before.before.before.before.before.in-Appended.is in (
       h.0 ∙ number_accepted yes,
       (
         h.1.0 ∙ value_accepted (λ (t : Appended). kind_out (new_place t)) _ yes,
@@ -44,7 +44,7 @@ returns-in-Appended c =
 returns-in-Refused : tie.Need-returns-in-Refused
 returns-in-Refused c =
     let h = c.put_head-in-Refused.ensures in
-    let no = ap append_answer c.before.before.before.before.before.before.answer-in-Refused-1.given.1 in (
+    let no = ap append_answer c.before.before.before.before.before.in-Refused.is in (
       h.0 ∙ number_refused no,
       (
         h.1.0 ∙ value_refused (λ (t : Appended). kind_out (new_place t)) _ no,

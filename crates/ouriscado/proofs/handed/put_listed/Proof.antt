@@ -14,7 +14,7 @@ enum_known-answer-in-Refused-1 c = search rules
 
 returns-in-Listed : tie.Need-returns-in-Listed
 returns-in-Listed c =
-    let yes = ap read_answer c.before.answer-1.given.1 in (
+    let yes = ap read_answer c.in-Listed.is in (
       number_accepted yes,
       (
         value_accepted (λ (x : Counted). x.length) _ yes,
@@ -24,7 +24,7 @@ returns-in-Listed c =
 
 returns-in-Refused : tie.Need-returns-in-Refused
 returns-in-Refused c =
-    let no = ap read_answer c.before.answer-in-Refused-1.given.1 in (
+    let no = ap read_answer c.in-Refused.is in (
       number_refused no,
       (
         value_refused (λ (x : Counted). x.length) _ no,

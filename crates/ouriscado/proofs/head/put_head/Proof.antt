@@ -28,7 +28,7 @@ place_of-requires c κs = search rules
 
 returns-in-Refused : tie.Need-returns-in-Refused
 returns-in-Refused c =
-    let no = ap unpack_answer c.before.got-1.given.1 in (
+    let no = ap unpack_answer c.in-Refused.is in (
       number_refused no,
       (
         value_refused kind_out _ no,
@@ -38,7 +38,7 @@ returns-in-Refused c =
 
 returns-in-Head : tie.Need-returns-in-Head
 returns-in-Head c =
-    let yes = ap unpack_answer c.before.before.before.before.before.got-in-Head-1.given.1 in (
+    let yes = ap unpack_answer c.before.before.before.before.in-Head.is in (
       number_accepted yes,
       (
         c.before.before.before.kind_of.ensures

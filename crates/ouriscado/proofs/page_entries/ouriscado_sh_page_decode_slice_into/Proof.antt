@@ -26,8 +26,8 @@ shape_of-out-in_default c = search rules
 returns-in_default : tie.Need-returns-in_default
 unfolding page_read_of
 returns-in_default c =
-    let e = c.before.before.before.before.before.sh_page_decode_slice_into-got.ensures in
-    let no = sym e.0 ∙ ap slice_answer c.before.enum_told-1.given.1 in (
+    let e = c.before.before.before.before.sh_page_decode_slice_into-got.ensures in
+    let no = sym e.0 ∙ ap slice_answer c.before.in_default.is in (
       c.refusal.ensures ∙ ap refusal_of e.0
           ∙ number_answered (page_read_of _) _,
       (
@@ -48,8 +48,8 @@ shape_of-out c = search rules
 returns : tie.Need-returns
 unfolding page_read_of
 returns c =
-    let e = c.before.before.before.before.before.sh_page_decode_slice_into-got.ensures in
-    let yes = sym e.0 ∙ ap slice_answer c.before.got-1.given.1 in (
+    let e = c.before.before.before.sh_page_decode_slice_into-got.ensures in
+    let yes = sym e.0 ∙ ap slice_answer c.in-Decoded.is in (
       number_accepted yes
           ∙ number_answered (page_read_of _) _,
       (

@@ -25,8 +25,8 @@ shape_of-out-in_default c = search rules
 
 returns-in_default : tie.Need-returns-in_default
 returns-in_default c =
-    let e = c.before.before.before.before.before.sh_page_entries_into-got.ensures in
-    let no = sym e.0 ∙ ap entries_answer c.before.enum_told-1.given.1 in (
+    let e = c.before.before.before.before.sh_page_entries_into-got.ensures in
+    let no = sym e.0 ∙ ap entries_answer c.before.in_default.is in (
       c.refusal.ensures ∙ ap refusal_of e.0
           ∙ number_answered (entries_read_of _) _,
       (
@@ -43,8 +43,8 @@ shape_of-out c = search rules
 
 returns : tie.Need-returns
 returns c =
-    let e = c.before.before.before.before.before.sh_page_entries_into-got.ensures in
-    let yes = sym e.0 ∙ ap entries_answer c.before.got-1.given.1 in (
+    let e = c.before.before.before.sh_page_entries_into-got.ensures in
+    let yes = sym e.0 ∙ ap entries_answer c.in-Entries.is in (
       number_accepted yes ∙ number_answered (entries_read_of _) _,
       (
         e.1,

@@ -22,14 +22,14 @@ refusal-requires c κs = search rules
 
 returns-in_default : tie.Need-returns-in_default
 returns-in_default c =
-    let e = c.before.before.before.sh_page_last_fk-got.ensures in
-    let no = sym e ∙ ap last_fk_answer c.before.enum_told-1.given.1 in
+    let e = c.before.before.sh_page_last_fk-got.ensures in
+    let no = sym e ∙ ap last_fk_answer c.before.in_default.is in
     (c.refusal.ensures ∙ ap refusal_of e ∙ number_answered last_of _, value_refused (λ x. x) _ no ∙ value_answered (λ x. x) last_of _ _)
 
 returns : tie.Need-returns
 returns c =
-    let e = c.before.before.before.sh_page_last_fk-got.ensures in
-    let yes = sym e ∙ ap last_fk_answer c.before.got-1.given.1 in
+    let e = c.before.sh_page_last_fk-got.ensures in
+    let yes = sym e ∙ ap last_fk_answer c.in-Last.is in
     (number_accepted yes ∙ number_answered last_of _, value_accepted (λ x. x) _ yes ∙ value_answered (λ x. x) last_of _ _)
 
 pub ouriscado_sh_page_last_fk_spec : {M : Type 1} → statement M

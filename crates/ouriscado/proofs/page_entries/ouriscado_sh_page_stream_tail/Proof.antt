@@ -22,8 +22,8 @@ refusal-requires c κs = search rules
 
 returns-in_default : tie.Need-returns-in_default
 returns-in_default c =
-    let e = c.before.before.before.sh_page_stream_tail-got.ensures in
-    let no = sym e ∙ ap scan_answer c.before.enum_told-1.given.1 in (
+    let e = c.before.before.sh_page_stream_tail-got.ensures in
+    let no = sym e ∙ ap scan_answer c.before.in_default.is in (
       c.refusal.ensures ∙ ap refusal_of e
           ∙ number_answered (end_from 0) _,
       (
@@ -35,8 +35,8 @@ returns-in_default c =
 
 returns : tie.Need-returns
 returns c =
-    let e = c.before.before.before.sh_page_stream_tail-got.ensures in
-    let yes = sym e ∙ ap scan_answer c.before.got-1.given.1 in (
+    let e = c.before.sh_page_stream_tail-got.ensures in
+    let yes = sym e ∙ ap scan_answer c.in-Scanned.is in (
       number_accepted yes
           ∙ number_answered (end_from 0) _,
       (

@@ -18,17 +18,17 @@ enum_known-got-in-Refused-1 c = search rules
 
 returns-in-Extent : tie.Need-returns-in-Extent
 returns-in-Extent c =
-    let yes = ap extent_answer c.before.got-1.given.1 in
+    let yes = ap extent_answer c.in-Extent.is in
     (number_accepted yes, (value_accepted base_or0 _ yes, value_accepted count_or0 _ yes))
 
 returns-in-Nothing : tie.Need-returns-in-Nothing
 returns-in-Nothing c =
-    let yes = ap extent_answer c.enum_told-1.given.1 in
+    let yes = ap extent_answer c.in-Nothing.is in
     (number_accepted yes, (value_accepted base_or0 _ yes, value_accepted count_or0 _ yes))
 
 returns-in-Refused : tie.Need-returns-in-Refused
 returns-in-Refused c =
-    let no = ap extent_answer c.before.got-in-Refused-1.given.1 in
+    let no = ap extent_answer c.in-Refused.is in
     (number_refused no, (value_refused base_or0 _ no, value_refused count_or0 _ no))
 
 pub put_extent_spec : {M : Type 1} → statement M

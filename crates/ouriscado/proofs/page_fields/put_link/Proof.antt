@@ -14,12 +14,12 @@ enum_known-got-in-Refused-1 c = search rules
 
 returns-in-Link : tie.Need-returns-in-Link
 returns-in-Link c =
-    let yes = ap link_answer c.before.got-1.given.1 in
+    let yes = ap link_answer c.in-Link.is in
     (number_accepted yes, (value_accepted (λ l. l.last) _ yes, value_accepted (λ l. l.off) _ yes))
 
 returns-in-Refused : tie.Need-returns-in-Refused
 returns-in-Refused c =
-    let no = ap link_answer c.before.got-in-Refused-1.given.1 in
+    let no = ap link_answer c.in-Refused.is in
     (number_refused no, (value_refused (λ l. l.last) _ no, value_refused (λ l. l.off) _ no))
 
 pub put_link_spec : {M : Type 1} → statement M

@@ -26,8 +26,8 @@ shape_of-out-in_default c = search rules
 
 returns-in_default : tie.Need-returns-in_default
 returns-in_default c =
-    let e = c.before.before.before.before.before.decode_slab_payload_into-got.ensures in
-    let no = sym e.0 ∙ ap slab_answer c.before.enum_told-1.given.1 in (
+    let e = c.before.before.before.before.decode_slab_payload_into-got.ensures in
+    let no = sym e.0 ∙ ap slab_answer c.before.in_default.is in (
       c.refusal.ensures ∙ ap refusal_of e.0
           ∙ number_answered (slab_list_of _) _,
       (
@@ -47,8 +47,8 @@ shape_of-out c = search rules
 
 returns : tie.Need-returns
 returns c =
-    let e = c.before.before.before.before.before.decode_slab_payload_into-got.ensures in
-    let yes = sym e.0 ∙ ap slab_answer c.before.got-1.given.1 in (
+    let e = c.before.before.before.decode_slab_payload_into-got.ensures in
+    let yes = sym e.0 ∙ ap slab_answer c.in-Numbers.is in (
       number_accepted yes
           ∙ number_answered (slab_list_of _) _,
       (

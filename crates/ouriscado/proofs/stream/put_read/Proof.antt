@@ -15,12 +15,12 @@ enum_known-got-in-Refused-1 c = search rules
 
 returns-in-Read : tie.Need-returns-in-Read
 returns-in-Read c =
-    let yes = ap stream_read_answer c.before.got-1.given.1 in
+    let yes = ap stream_read_answer c.in-Read.is in
     (number_accepted yes, (value_accepted (λ (x : StreamTold). x.taken) _ yes, value_accepted (λ (x : StreamTold). x.padded) _ yes))
 
 returns-in-Refused : tie.Need-returns-in-Refused
 returns-in-Refused c =
-    let no = ap stream_read_answer c.before.got-in-Refused-1.given.1 in
+    let no = ap stream_read_answer c.in-Refused.is in
     (number_refused no, (value_refused (λ (x : StreamTold). x.taken) _ no, value_refused (λ (x : StreamTold). x.padded) _ no))
 
 pub put_read_spec : {M : Type 1} → statement M

@@ -24,8 +24,8 @@ shape_of-dst-in_default c = search rules
 
 returns-in_default : tie.Need-returns-in_default
 returns-in_default c =
-    let e = c.before.before.before.before.before.write_uleb128_into-got.ensures in
-    let no = sym e.0 ∙ ap write_uleb_answer c.before.enum_told-1.given.1 in
+    let e = c.before.before.before.before.write_uleb128_into-got.ensures in
+    let no = sym e.0 ∙ ap write_uleb_answer c.before.in_default.is in
     (c.refusal.ensures ∙ ap refusal_of e.0, (e.1, value_refused (λ x. x) _ no))
 
 shape_of-dst : tie.Need-shape_of-dst
@@ -33,8 +33,8 @@ shape_of-dst c = search rules
 
 returns : tie.Need-returns
 returns c =
-    let e = c.before.before.before.before.before.write_uleb128_into-got.ensures in
-    let yes = sym e.0 ∙ ap write_uleb_answer c.before.got-1.given.1 in
+    let e = c.before.before.before.write_uleb128_into-got.ensures in
+    let yes = sym e.0 ∙ ap write_uleb_answer c.in-Written.is in
     (number_accepted yes, (e.1, value_accepted (λ x. x) _ yes))
 
 pub ouriscado_write_uleb128_into_spec : {M : Type 1} → statement M

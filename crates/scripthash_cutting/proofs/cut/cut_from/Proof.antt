@@ -40,15 +40,15 @@ long : (c : tie.Joined-free-fks) → let args = c.before.before.args in
 long c =
     let args = c.before.before.args in
     let pre = c.before.before.requires in
-    ⊎_elim (λ w. omega (arith, w.1.ensures, w.2.left))
+    ⊎_elim (λ w. omega (arith, w.count_parts.ensures, w.if-free-count_parts.false))
     (λ w. omega (
       arith,
-      w.left,
+      w.if-free-fks.false,
       length-drop args.from args.fks.now,
       pages_at_most args.room pre.1 pre.2 (drop args.from args.fks.now)
           (words_drop args.from args.fks.now (λ i. omega (arith, c.before.shared_slice_known-1.given i))),
     ))
-    c.if-free-fks.branch
+    c.if-free-fks.branch-raw
 
 write_ranges-count-requires : tie.Need-write_ranges-count-requires
 write_ranges-count-requires c κs = let pre = c.before.before.before.requires in (pre.0, pre.1, pre.2, long c.before)

@@ -66,17 +66,17 @@ returns-then-fks-end c =
 
 slice_bounds-upto-end : tie.Need-slice_bounds-upto-end
 slice_bounds-upto-end c =
-    let args = c.before.before.before.before.before.before.before.args in
-    sym (length-take-le (get_or (get_or args.chunks.now (args.count - 1) []) 1 0) args.fks.now c.before.if-fks-end.false)
+    let args = c.before.before.before.before.before.before.args in
+    sym (length-take-le (get_or (get_or args.chunks.now (args.count - 1) []) 1 0) args.fks.now c.if-fks-end.false)
 
 overflow_sub-count : tie.Need-overflow_sub-count
 overflow_sub-count c = search rules
 
 cut_from-requires : tie.Need-cut_from-requires
 cut_from-requires c κs =
-    let args = c.before.before.before.before.before.before.before.before.args in
+    let args = c.before.before.before.before.before.before.before.args in
     let last = get_or args.chunks.now (args.count - 1) [] in (
-      omega (arith, length-take-le (get_or last 1 0) args.fks.now c.before.before.if-fks-end.false, c.before.before.before.if-end-start.false),
+      omega (arith, length-take-le (get_or last 1 0) args.fks.now c.before.if-fks-end.false, c.before.before.if-end-start.false),
       omega arith,
       omega arith,
       search rules,
@@ -87,14 +87,14 @@ shape_of-chunks c = search rules
 
 returns : tie.Need-returns
 returns c =
-    let args = c.before.before.before.before.before.before.before.before.before.before.args in
+    let args = c.before.before.before.before.before.before.before.before.before.args in
     let last = get_or args.chunks.now (args.count - 1) [] in
     let words = words_drop (get_or last 0 0) (take (get_or last 1 0) args.fks.now)
     (words_take (get_or last 1 0) args.fks.now
-    (λ i. omega (arith, c.before.before.before.before.before.before.before.before.before.shared_slice_known-1.given i))) in
+    (λ i. omega (arith, c.before.before.before.before.before.before.before.before.shared_slice_known-1.given i))) in
     let cut = split_cut args.fks.now args.chunks.now args.count
-    (some c.before.before.before.before.before.before.before) (search rules) c.before.before.before.before.before.if-end-start.false
-    c.before.before.before.before.if-fks-end.false words in
+    (some c.before.before.before.before.before.before) (search rules) c.before.before.before.before.if-end-start.false
+    c.before.before.before.if-fks-end.false words in
     (c.before.cut_from.ensures.0 ∙ sym cut.0, c.before.cut_from.ensures.1 ∙ sym cut.1)
 
 pub split_last_chunk_for_extent_spec : {M : Type 1} → statement M

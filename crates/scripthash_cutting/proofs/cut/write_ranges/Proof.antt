@@ -69,7 +69,7 @@ loop-start-preserved c =
       simp length-set inv.2,
       sym (overwrite_step out c.before.before.loop-start.count (range_of (start c) e)
           (ranges_from e (cutting_for last_page_room large (drop e (fks c)))) (room c))
-          ∙ (rw (found c).ranges-2 at inv.3),
+          ∙ (rw (found c).ranges at inv.3),
     )
 
 shape_of-out : tie.Need-shape_of-out invariant_loop decreases_loop

@@ -68,17 +68,17 @@ refusal-requires c κs = search rules
 
 returns-in_default : tie.Need-returns-in_default
 returns-in_default c =
-    let is = c.before.enum_told-in_default-1.given.1 in
-    let e = c.before.before.before in
+    let is = c.before.in_default.is in
+    let e = c.before.before in
     let d = e.before in
     ap refused (c.refusal.ensures ∙ ap (λ (g : PageDone). refusal_of (done_answer g)) is)
     ∙ sym (extent_no (base d) (count d) (told d) (sym e.check_extent-named.ensures ∙ ap done_answer is)) ∙ stored d
 
 returns : tie.Need-returns
 returns c =
-    let e = c.before.before in
+    let e = c.before in
     let d = e.before in
-    sym (extent_yes (base d) (count d) (told d) (sym e.check_extent-named.ensures ∙ ap done_answer c.enum_told-1.given.1)) ∙ stored d
+    sym (extent_yes (base d) (count d) (told d) (sym e.check_extent-named.ensures ∙ ap done_answer c.in-Done.is)) ∙ stored d
 
 pub sh_page_extent_spec : {M : Type 1} → statement M
 sh_page_extent_spec =

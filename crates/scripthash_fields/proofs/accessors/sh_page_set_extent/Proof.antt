@@ -31,8 +31,8 @@ enum_told-in_default c = search rules
 returns-in_default : tie.Need-returns-in_default
 unfolding set_extent
 returns-in_default c =
-    let told = c.enum_told-in_default-1.given.1 in
-    let d = c.before.before in
+    let told = c.in_default.is in
+    let d = c.before in
     let a = d.before.before.before.args in
     let no = set_no a.page.now (set_extent a.page.now a.base a.n)
     (page_yes a.page.now _ d.before.if-page-ne-SH_PAGE_SIZE.false
@@ -58,11 +58,11 @@ returns c =
     let second = last.before.before.before.before in
     let first = second.before.before.before.before in
     let t = first.before.before in
-    let d = t.before.before in
+    let d = t.before in
     let a = d.before.before.before.args in
     set_yes a.page.now _ (set_extent a.page.now a.base a.n)
     (extent_written a.page.now d.before.if-page-ne-SH_PAGE_SIZE.false a.base a.n (sym d.check_extent-named.ensures
-    ∙ ap done_answer t.enum_told-1.given.1))
+    ∙ ap done_answer t.in-Done.is))
     (last.put_u32.ensures
     ∙ ap (λ (b : List ℕ). overwrite b 16 (bytes_of 4 a.n))
     (second.put_u64.ensures ∙ ap (λ (b : List ℕ). overwrite b 8 (bytes_of 8 a.base)) first.set_version.ensures))

@@ -22,9 +22,9 @@ shape_of-page-then-version-ne-SH_PAGE_EXTENT_VER c = search rules
 
 returns-then-version-ne-SH_PAGE_EXTENT_VER : tie.Need-returns-then-version-ne-SH_PAGE_EXTENT_VER
 returns-then-version-ne-SH_PAGE_EXTENT_VER c =
-    let a = c.before.before.before.before.before.args in
+    let a = c.before.before.before.before.args in
     set_yes a.page.now a.page.now (set_creates a.page.now a.n)
-    (creates_idle a.page.now c.before.before.before.if-page-ne-SH_PAGE_SIZE.false a.n c.before.version_of-version.result
+    (creates_idle a.page.now c.before.before.if-page-ne-SH_PAGE_SIZE.false a.n c.before.version_of-version.result
     c.before.version_of-version.ensures c.if-version-ne-SH_PAGE_EXTENT_VER.true) refl
 
 put_u32-requires : tie.Need-put_u32-requires
@@ -38,9 +38,9 @@ unfolding set_field
 returns c =
     let put = c.before.before in
     let v = put.before.before.before in
-    let a = v.before.before.before.before.args in
+    let a = v.before.before.before.args in
     set_yes a.page.now _ (set_creates a.page.now a.n)
-    (creates_set a.page.now v.before.before.if-page-ne-SH_PAGE_SIZE.false a.n v.version_of-version.result v.version_of-version.ensures
+    (creates_set a.page.now v.before.if-page-ne-SH_PAGE_SIZE.false a.n v.version_of-version.result v.version_of-version.ensures
     put.before.before.if-version-ne-SH_PAGE_EXTENT_VER.false)
     put.put_u32.ensures
 

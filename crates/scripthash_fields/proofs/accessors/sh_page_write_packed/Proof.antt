@@ -30,8 +30,8 @@ enum_told-in_default c = search rules
 returns-in_default : tie.Need-returns-in_default
 unfolding write_link
 returns-in_default c =
-    let told = c.enum_told-in_default-1.given.1 in
-    let d = c.before.before in
+    let told = c.in_default.is in
+    let d = c.before in
     let a = d.before.before.before.args in
     let no = set_no a.page.now (write_link a.page.now a.last a.off)
     (page_yes a.page.now _ d.before.if-page-ne-SH_PAGE_SIZE.false ∙ link_no a.off _ (sym d.check_link-named.ensures ∙ ap done_answer told)) in
@@ -51,11 +51,11 @@ unfolding set_field
 returns c =
     let put = c.before.before in
     let t = put.before.before.before in
-    let d = t.before.before in
+    let d = t.before in
     let a = d.before.before.before.args in
     set_yes a.page.now _ (write_link a.page.now a.last a.off)
     (link_written a.page.now d.before.if-page-ne-SH_PAGE_SIZE.false a.last a.off (sym d.check_link-named.ensures
-    ∙ ap done_answer t.enum_told-1.given.1))
+    ∙ ap done_answer t.in-Done.is))
     (put.put_u40.ensures ∙ ap (λ (l : ℕ). overwrite a.page.now 3 (bytes_of 5 l)) put.before.link_to.ensures)
 
 pub sh_page_write_packed_spec : {M : Type 1} → statement M

@@ -32,11 +32,10 @@ returns-in_default c = quick_form_none _ _
 
 returns : tie.Need-returns
 returns c =
-    let told = c.before.got-1.given in
-    let a = c.before.before.before.before.before.before.args in
-    let read = rw (part_to_end a.buf.now a.i) at c.before.before.before.read_uleb128-got.ensures in
-    quick_form told.0.0 told.0.1.0 (drop a.i a.buf.now)
-    (number_back (drop a.i a.buf.now) (sym read ∙ ap read_uleb_answer told.1))
+    let a = c.before.before.before.before.args in
+    let read = rw (part_to_end a.buf.now a.i) at c.before.read_uleb128-got.ensures in
+    quick_form c.in-Value.value c.in-Value.len (drop a.i a.buf.now)
+    (number_back (drop a.i a.buf.now) (sym read ∙ ap read_uleb_answer c.in-Value.is))
 
 pub any_form_spec : {M : Type 1} → statement M
 any_form_spec =

@@ -15,7 +15,7 @@ module _ (c : tie.After-with_more-v3) where
 
   carried_4 : Carried start_4.args.buf.now start_4.args.i 4 c.with_more-v3.result
   carried_4 =
-      form_more (three_carried start_4.pre) refl (omega arith) (omega arith) c.with_more-v3.result (omega arith)
+      form_more (three_carried start_4.requires) refl (omega arith) (omega arith) c.with_more-v3.result (omega arith)
       (omega (arith, c.before.before.shared_slice_known-2-1.given (start_4.args.i + 3))) c.with_more-v3.ensures.0
 
 -- five bytes go on

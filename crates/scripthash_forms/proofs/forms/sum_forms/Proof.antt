@@ -95,8 +95,8 @@ loop-k-preserved c =
       search rules,
       inside d,
       (number d).below,
-      ap length kept ∙ simp length-set l.inv.3,
-      rw kept (summed_next (bytes d) a.from a.prev a.n l.space l.sum l.i l.k l.inv.4 (got d) (is d) (omega arith)),
+      ap length kept ∙ simp length-set l.invariant.3,
+      rw kept (summed_next (bytes d) a.from a.prev a.n l.space l.sum l.i l.k l.invariant.4 (got d) (is d) (omega arith)),
     )
 
 shape_of-space : tie.Need-shape_of-space invariant_loop decreases_loop

@@ -25,8 +25,8 @@ at_measure t = and 2 kinds.ps (is 2 kinds.ps μ_decode_parts t) parts.Pre
 abbrev below : ℕ → In 2 kinds.ps
 below t = and 2 kinds.ps (falls 2 kinds.ps ◌<◌ μ_decode_parts t) parts.Pre
 
-pub +decode-parts-spec : {M : Type 1} → statement M
-+decode-parts-spec = close μ_decode_parts λ t. lts.spec (
+pub +decode_parts_spec : {M : Type 1} → statement M
++decode_parts_spec = close μ_decode_parts λ t. lts.spec (
   through.Asked,
   through.Learnt,
   sum.Asked,
@@ -40,7 +40,7 @@ pub +decode-parts-spec : {M : Type 1} → statement M
     (λ c. search rules)
     (λ c κs. search rules)
     (λ c. search rules)
-    (λ c. c.before.before.before.decode-through.ensures)
+    (λ c. c.before.before.before.decode_through.ensures)
     -- the first 256 of more
     (λ c. search rules)
     (λ c κs. search rules)
@@ -49,23 +49,23 @@ pub +decode-parts-spec : {M : Type 1} → statement M
     (λ c. search rules)
     (λ c. search rules)
     (λ c κs.
-    let s = c.before.before.before.sum-forms.ensures in
+    let s = c.before.before.before.sum_forms-end.ensures in
     (omega (arith, c.before.before.before.before.before.before.before.before.requires.0), (s.within, s.below, search rules)))
     (λ c. search rules)
-    (λ c. part_none c.before.before.before.decode-parts.result _ _ _ _ _ _ c.before.before.before.decode-parts.ensures
+    (λ c. part_none c.before.before.before.decode_parts-taken.result _ _ _ _ _ _ c.before.before.before.decode_parts-taken.ensures
     (omega arith))
     -- and the copy
     (λ c. search rules)
     (λ c κs. search rules)
     (λ c. search rules)
     (λ c.
-    let more = c.before.before.before.before.before.before.before.before.decode-parts in
+    let more = c.before.before.before.before.before.before.before.before.decode_parts-taken in
     let g = c.before.before.before.before.before in
     let e = g.before.before.before.before.before in
     let f = e.before.before in
-    let s = f.sum-forms in
+    let s = f.sum_forms-end in
     let start = f.before.before.before.before.before in
     let a = start.args in
     part_more 256 s.result.taken s.result.last more.result a.from a.prev a.n a.at a.buf.now _ a.out.now _ _
-    s.ensures (omega (arith, e.if2.false)) (search rules) (omega arith) start.requires.1.2 (omega (arith, g.if3.false))
-    c.before.before.copy-fks.ensures more.ensures)
+    s.ensures (omega (arith, e.if-next-eq0.false)) (search rules) (omega arith) start.requires.1.2 (omega (arith, g.if-taken-eq0.false))
+    c.before.before.copy_fks.ensures more.ensures)

@@ -25,7 +25,7 @@ shape_of-out c = search rules
 
 returns : tie.Need-returns
 returns c =
-    let f = c.before.before.before.before.before.before.before.before.before in
+    let f = c.before.before.before.before.before.before.before.before in
     let a = f.before.before.before.before.before.args in
     part_summed f.sum_forms-end.result.taken f.sum_forms-end.result.last a.from a.prev a.n a.buf.now _ a.out.now _
     a.at f.sum_forms-end.ensures (omega arith) (omega arith)

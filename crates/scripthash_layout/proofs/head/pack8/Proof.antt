@@ -17,25 +17,25 @@ overflow_cast-used c = search rules
 
 returns-then-used-ne-SH_INLINE_CAP : tie.Need-returns-then-used-ne-SH_INLINE_CAP
 unfolding pack_head refuse_if
-returns-then-used-ne-SH_INLINE_CAP c = rw c.before.before.v-1.given.1 (search (rules, lt-leb, le-leb, eq-eqb, ne_eqb))
+returns-then-used-ne-SH_INLINE_CAP c = rw c.before.in-Inline.is (search (rules, lt-leb, le-leb, eq-eqb, ne_eqb))
 
 returns-then-entry-ge-SH8_MODE_UNIT : tie.Need-returns-then-entry-ge-SH8_MODE_UNIT
 unfolding pack_head refuse_if
-returns-then-entry-ge-SH8_MODE_UNIT c = rw c.before.before.before.v-1.given.1 (search (rules, lt-leb, le-leb, eq-eqb))
+returns-then-entry-ge-SH8_MODE_UNIT c = rw c.before.before.in-Inline.is (search (rules, lt-leb, le-leb, eq-eqb))
 
 enum_known-v-in-Slab-1 : tie.Need-enum_known-v-in-Slab-1
 enum_known-v-in-Slab-1 c = search rules
 
 returns-then-off-ge-SH8_USED_UNIT : tie.Need-returns-then-off-ge-SH8_USED_UNIT
 unfolding pack_head refuse_if
-returns-then-off-ge-SH8_USED_UNIT c = rw c.before.before.v-in-Slab-1.given.1 (search (rules, lt-leb, le-leb, eq-eqb))
+returns-then-off-ge-SH8_USED_UNIT c = rw c.before.in-Slab.is (search (rules, lt-leb, le-leb, eq-eqb))
 
 overflow_cast-class : tie.Need-overflow_cast-class
 overflow_cast-class c = search rules
 
 returns-then-class-ge-SH8_CLASS_RANGE : tie.Need-returns-then-class-ge-SH8_CLASS_RANGE
 unfolding pack_head refuse_if
-returns-then-class-ge-SH8_CLASS_RANGE c = rw c.before.before.before.v-in-Slab-1.given.1 (search (rules, lt-leb, le-leb, eq-eqb))
+returns-then-class-ge-SH8_CLASS_RANGE c = rw c.before.before.in-Slab.is (search (rules, lt-leb, le-leb, eq-eqb))
 
 slab_word-requires : tie.Need-slab_word-requires
 slab_word-requires c κs = search rules
@@ -45,11 +45,11 @@ enum_known-v-in-Extent-1 c = search rules
 
 returns-then-last_page-eq0 : tie.Need-returns-then-last_page-eq0
 unfolding pack_head refuse_if
-returns-then-last_page-eq0 c = rw c.before.before.v-in-Extent-1.given.1 (search (rules, lt-leb, le-leb, eq-eqb))
+returns-then-last_page-eq0 c = rw c.before.in-Extent.is (search (rules, lt-leb, le-leb, eq-eqb))
 
 returns-then-last_page-ge-SH8_MODE_UNIT : tie.Need-returns-then-last_page-ge-SH8_MODE_UNIT
 unfolding pack_head refuse_if
-returns-then-last_page-ge-SH8_MODE_UNIT c = rw c.before.before.before.v-in-Extent-1.given.1 (search (rules, lt-leb, le-leb, eq-eqb, ne_eqb))
+returns-then-last_page-ge-SH8_MODE_UNIT c = rw c.before.before.in-Extent.is (search (rules, lt-leb, le-leb, eq-eqb, ne_eqb))
 
 overflow_mul-result : tie.Need-overflow_mul-result
 overflow_mul-result c = search rules
@@ -59,19 +59,19 @@ overflow_add-result c = search rules
 
 returns-in-Empty : tie.Need-returns-in-Empty
 unfolding pack_head refuse_if
-returns-in-Empty c = rw c.enum_told-1.given.1 (search rules)
+returns-in-Empty c = rw c.in-Empty.is (search rules)
 
 returns-else-entry-ge-SH8_MODE_UNIT : tie.Need-returns-else-entry-ge-SH8_MODE_UNIT
 unfolding pack_head refuse_if
-returns-else-entry-ge-SH8_MODE_UNIT c = rw c.before.before.before.v-1.given.1 (search (rules, lt-leb, le-leb, eq-eqb))
+returns-else-entry-ge-SH8_MODE_UNIT c = rw c.before.before.in-Inline.is (search (rules, lt-leb, le-leb, eq-eqb))
 
 returns-else-class-ge-SH8_CLASS_RANGE : tie.Need-returns-else-class-ge-SH8_CLASS_RANGE
 unfolding pack_head refuse_if
-returns-else-class-ge-SH8_CLASS_RANGE c = rw c.before.before.before.before.v-in-Slab-1.given.1 (search (rules, lt-leb, le-leb, eq-eqb))
+returns-else-class-ge-SH8_CLASS_RANGE c = rw c.before.before.before.in-Slab.is (search (rules, lt-leb, le-leb, eq-eqb))
 
 returns-else-last_page-ge-SH8_MODE_UNIT : tie.Need-returns-else-last_page-ge-SH8_MODE_UNIT
 unfolding pack_head refuse_if
-returns-else-last_page-ge-SH8_MODE_UNIT c = rw c.before.before.before.v-in-Extent-1.given.1 (search (rules, lt-leb, le-leb, eq-eqb, ne_eqb))
+returns-else-last_page-ge-SH8_MODE_UNIT c = rw c.before.before.in-Extent.is (search (rules, lt-leb, le-leb, eq-eqb, ne_eqb))
 
 pub pack8_spec : {M : Type 1} → statement M
 pack8_spec =

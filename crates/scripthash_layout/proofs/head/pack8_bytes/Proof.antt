@@ -18,7 +18,7 @@ enum_told-1 c = search rules
 
 returns-in_default : tie.Need-returns-in_default
 unfolding head_bytes
-returns-in_default c = (c.before.before.pack8-packed.ensures, rw (← c.before.before.pack8-packed.ensures, c.enum_told-1.given.1))
+returns-in_default c = (c.before.pack8-packed.ensures, rw (← c.before.pack8-packed.ensures, c.in_default.is))
 
 u64_bytes-requires : tie.Need-u64_bytes-requires
 u64_bytes-requires c κs = search rules
@@ -26,8 +26,8 @@ u64_bytes-requires c κs = search rules
 returns : tie.Need-returns
 unfolding head_bytes
 returns c =
-    let e : pack_head c.before.before.before.before.before.args.v ≡ accepted c.before.before.packed-1.given.0.0 =
-    sym c.before.before.before.before.pack8-packed.ensures ∙ ap pack_answer c.before.before.packed-1.given.1 in
+    let e : pack_head c.before.before.before.args.v ≡ accepted c.before.in-Word.w =
+    sym c.before.before.pack8-packed.ensures ∙ ap pack_answer c.before.in-Word.is in
     (sym e, rw e c.u64_bytes.ensures)
 
 pub pack8_bytes_spec : {M : Type 1} → statement M

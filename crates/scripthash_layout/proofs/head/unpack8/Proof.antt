@@ -12,7 +12,7 @@ returns-then-w-eq0 c = search (rules, lt-leb, le-leb, eq-eqb)
 
 returns-then-used-le-SH_INLINE_CAP : tie.Need-returns-then-used-le-SH_INLINE_CAP
 unfolding unpack_head refuse_if
-returns-then-used-le-SH_INLINE_CAP c = rw c.before.in-0.keys2 (search (rules, lt-leb, le-leb))
+returns-then-used-le-SH_INLINE_CAP c = rw c.before.in-1.is (search (rules, lt-leb, le-leb))
 
 overflow_cast-result : tie.Need-overflow_cast-result
 overflow_cast-result c = search rules
@@ -30,11 +30,11 @@ returns-else-w-eq0 c = search (rules, lt-leb, le-leb, eq-eqb, ne_eqb)
 
 returns-else-used-le-SH_INLINE_CAP : tie.Need-returns-else-used-le-SH_INLINE_CAP
 unfolding unpack_head refuse_if
-returns-else-used-le-SH_INLINE_CAP c = rw c.before.in-0.keys2 (search (rules, lt-leb, le-leb))
+returns-else-used-le-SH_INLINE_CAP c = rw c.before.in-1.is (search (rules, lt-leb, le-leb))
 
 returns-in-2 : tie.Need-returns-in-2
 unfolding unpack_head refuse_if
-returns-in-2 c = rw c.in-0.keys3 (search rules)
+returns-in-2 c = rw c.in-2.is (search rules)
 
 returns-else-last_page-eq0 : tie.Need-returns-else-last_page-eq0
 unfolding unpack_head refuse_if

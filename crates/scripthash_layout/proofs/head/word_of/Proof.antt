@@ -36,9 +36,9 @@ u64_of-requires c κs = search rules
 
 returns : tie.Need-returns
 returns c =
-    let eight : length c.before.args.t1 ≡ 8 = search rules in
-    ◌∙◌ {b = little_endian (listed 8 c.before.args.t1 0)} c.u64_of.ensures
-    (ap little_endian (sym (whole_listed 8 c.before.args.t1 eight)))
+    let eight : length c.before.args.b ≡ 8 = search rules in
+    ◌∙◌ {b = little_endian (listed 8 c.before.args.b 0)} c.u64_of.ensures
+    (ap little_endian (sym (whole_listed 8 c.before.args.b eight)))
 
 pub word_of_spec : {M : Type 1} → statement M
 word_of_spec =

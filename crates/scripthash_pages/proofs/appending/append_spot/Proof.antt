@@ -23,7 +23,7 @@ use Rattle.scripthash_pages.proofs.appending.append_spot.Tie as tie
 -- the page scans
 module _ (c : tie.In-Scanned) where
   abbrev called : tie.After-sh_page_stream_tail-tail
-  called = c.before.before.before
+  called = c.before
 
   abbrev page : List ℕ
   page = called.before.before.before.before.before.args.page.now
@@ -32,13 +32,13 @@ module _ (c : tie.In-Scanned) where
   fk = called.before.before.before.before.before.args.fk
 
   abbrev taken : ℕ
-  taken = c.before.tail-1.given.0.0
+  taken = c.in-Scanned.taken
 
   abbrev last : ℕ
-  last = c.before.tail-1.given.0.1.0
+  last = c.in-Scanned.last
 
   found : (s : Scan) × (page_scan page ≡ accepted s) × (end_from 0 s ≡ record { taken = taken; last = last })
-  found = was_accepted (end_from 0) (page_scan page) (sym called.sh_page_stream_tail-tail.ensures ∙ ap scan_answer c.before.tail-1.given.1)
+  found = was_accepted (end_from 0) (page_scan page) (sym called.sh_page_stream_tail-tail.ensures ∙ ap scan_answer c.in-Scanned.is)
 
   taken_is : found.0.taken ≡ taken
   taken_is = ap (λ (e : End). e.taken) found.2
@@ -99,11 +99,10 @@ refusal-requires c κs = search rules
 
 returns-in_default : tie.Need-returns-in_default
 returns-in_default c =
-    let told = c.before.enum_told-1.given in
-    let t = c.before.before.before in
+    let t = c.before.before in
     let a = t.before.before.before.before.before.args in
-    let stop = was_refused (end_from 0) (page_scan a.page.now) (sym t.sh_page_stream_tail-tail.ensures ∙ ap scan_answer told.1) in
-    ap refused (c.refusal.ensures ∙ ap (λ (g : ScanStream). refusal_of (scan_answer g)) told.1)
+    let stop = was_refused (end_from 0) (page_scan a.page.now) (sym t.sh_page_stream_tail-tail.ensures ∙ ap scan_answer c.before.in_default.is) in
+    ap refused (c.refusal.ensures ∙ ap (λ (g : ScanStream). refusal_of (scan_answer g)) c.before.in_default.is)
     ∙ sym (spot_stop a.page.now a.fk (omega arith) (λ (e : a.fk ≡ 0). omega arith) (omega arith) stop)
 
 returns-then-fk-last : tie.Need-returns-then-fk-last

@@ -21,7 +21,7 @@ bounds-page-0-2 c = search rules
 
 overflow_add-count : tie.Need-overflow_add-count
 overflow_add-count c =
-    let start = c.before.before.before.before.before.before in
+    let start = c.before.before.before.before.before in
     omega (arith, c.before.before.before.get_u16-count.ensures, count_read start.args.page.now, start.requires.1)
 
 put_u16-requires : tie.Need-put_u16-requires
@@ -30,13 +30,13 @@ put_u16-requires c κs = search rules
 shape_of-page : tie.Need-shape_of-page
 shape_of-page c =
     let k = c.before.before.before.before in
-    let start = k.before.before.before.before.before in
+    let start = k.before.before.before.before in
     ap length c.before.before.put_u16.ensures ∙ one_more_length start.args.page.now k.kept_version.result _ start.requires.0
 
 returns : tie.Need-returns
 returns c =
     let k = c.before.before.before.before in
-    let start = k.before.before.before.before.before in
+    let start = k.before.before.before.before in
     c.before.before.put_u16.ensures
     ∙ one_more_is start.args.page.now k.kept_version.result k.before.before.get_u16-count.result start.requires.0
     k.kept_version.ensures k.before.before.get_u16-count.ensures

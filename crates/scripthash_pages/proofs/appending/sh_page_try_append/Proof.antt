@@ -17,16 +17,16 @@ use Rattle.scripthash_pages.proofs.appending.sh_page_try_append.Tie as tie
 -- the number has a spot
 module _ (c : tie.In-Behind) where
   abbrev page : List ℕ
-  page = c.before.before.before.before.before.before.args.page.now
+  page = c.before.before.before.args.page.now
 
   abbrev fk : ℕ
-  fk = c.before.before.before.before.before.before.args.fk
+  fk = c.before.before.before.args.fk
 
   abbrev spot : Spot
-  spot = record { at = c.before.spot-1.given.0.0; difference = c.before.spot-1.given.0.1.0 }
+  spot = record { at = c.in-Behind.at; difference = c.in-Behind.difference }
 
   is : append_spot page fk ≡ accepted (some spot)
-  is = sym c.before.before.before.append_spot-spot.ensures ∙ ap spot_answer c.before.spot-1.given.1
+  is = sym c.before.append_spot-spot.ensures ∙ ap spot_answer c.in-Behind.is
 
   roomy : Roomy page fk spot
   roomy = spot_accepted page fk spot is
@@ -43,7 +43,7 @@ enum_known-spot c = search rules
 append_form-requires : tie.Need-append_form-requires
 append_form-requires c κs =
     let k = c.before in
-    (omega (arith, (ends k).long), omega (arith, (ends k).few), omega (arith, (roomy k).ranges, (ends k).long))
+    (omega (arith, (ends k).long), omega (arith, (ends k).few), omega (arith, (roomy k).fits, (ends k).long))
 
 enum_told-1 : tie.Need-enum_told-1
 enum_told-1 c = search rules
@@ -66,8 +66,8 @@ shape_of-page-in-Nowhere c = search rules
 
 returns-in-Nowhere : tie.Need-returns-in-Nowhere
 returns-in-Nowhere c =
-    let a = c.before.before.before.before.before.args in
-    let full = sym c.before.before.append_spot-spot.ensures ∙ ap spot_answer c.enum_told-1.given.1 in (
+    let a = c.before.before.before.args in
+    let full = sym c.before.append_spot-spot.ensures ∙ ap spot_answer c.in-Nowhere.is in (
       sym (answered_yes has_spot (append_spot a.page.now a.fk) full),
       sym (after_append_full a.page.now (append_spot a.page.now a.fk) full),
     )
@@ -77,8 +77,8 @@ shape_of-page-in-Refused c = search rules
 
 returns-in-Refused : tie.Need-returns-in-Refused
 returns-in-Refused c =
-    let a = c.before.before.before.before.before.before.args in
-    let stop = sym c.before.before.before.append_spot-spot.ensures ∙ ap spot_answer c.before.spot-in-Refused-1.given.1 in (
+    let a = c.before.before.before.args in
+    let stop = sym c.before.append_spot-spot.ensures ∙ ap spot_answer c.in-Refused.is in (
       sym (answered_no has_spot (append_spot a.page.now a.fk) stop),
       sym (after_append_no a.page.now (append_spot a.page.now a.fk) stop),
     )

@@ -22,7 +22,7 @@ use Rattle.scripthash_pages.proofs.appending.sh_page_write_stream.Tie as tie
 -- the stream's start
 module _ (c : tie.After-stream_off-off) where
   abbrev start : tie.Start
-  start = c.before.before.before.before.before.before
+  start = c.before.before.before.before.before
 
   abbrev page : List ℕ
   page = start.args.page.now
@@ -51,7 +51,7 @@ module _ (c : tie.After-encode_fk_delta_stream_into-got) where
   at = c.before.before
 
   abbrev out : List ℕ
-  out = c.encode_fk_delta_stream_into-got.new.0
+  out = c.encode_fk_delta_stream_into-got.new.out
 
   cap : length (page at) - off at ≡ stream_cap (page at)
   cap = omega (arith, off_is at, whole at)
@@ -102,9 +102,9 @@ shape_of-page-in_default c = search rules
 
 returns-in_default : tie.Need-returns-in_default
 returns-in_default c =
-    let d = c.before.before.before.before in
+    let d = c.before.before.before in
     let o = at d in
-    let is = ap bytes_answer c.enum_told-1.given.1 in (
+    let is = ap bytes_answer c.in_default.is in (
       is ∙ sym (told d ∙ is),
       lent_no (page o) (off o) (within o) (fks o) (out d) d.encode_fk_delta_stream_into-got.ensures.1 (answer d ∙ is)
           ∙ sym (after_written_no (page o) (fks o) (write_stream (page o) (fks o)) (told d ∙ is)),
@@ -122,9 +122,9 @@ shape_of-page c = search rules
 returns : tie.Need-returns
 returns c =
     let k = c.before.before.before.before in
-    let d = k.before.before.before.before.before in
+    let d = k.before.before.before in
     let o = at d in
-    let is = ap bytes_answer k.before.got-1.given.1 in (
+    let is = ap bytes_answer k.in-Bytes.is in (
       sym (told d ∙ is),
       c.before.before.put_u16.ensures
           ∙ ap (λ (b : List ℕ). overwrite b 1 (bytes_of 2 (length (fks o))))

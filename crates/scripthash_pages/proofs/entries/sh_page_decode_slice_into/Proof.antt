@@ -19,7 +19,7 @@ use Rattle.scripthash_pages.proofs.entries.sh_page_decode_slice_into.Tie as tie
 -- the numbers were read
 module _ (c : tie.In-Entries) where
   abbrev called : tie.After-sh_page_entries_into-got
-  called = c.before.before.before.before.before
+  called = c.before.before.before
 
   abbrev page : List ℕ
   page = called.before.before.before.before.args.page.now
@@ -28,15 +28,15 @@ module _ (c : tie.In-Entries) where
   entries = page_entries (length called.before.before.before.before.args.out.now) page
 
   abbrev count : ℕ
-  count = c.before.got-1.given.0.0
+  count = c.in-Entries.count
 
   abbrev padded : ℕ
-  padded = c.before.got-1.given.0.1.0
+  padded = c.in-Entries.padded
 
   found : (s : Scan) × (entries ≡ accepted s) × (entries_read_of page s ≡ record { count = count; padded = padded })
   found =
       was_accepted (entries_read_of page) entries
-      (sym called.sh_page_entries_into-got.ensures.0 ∙ ap entries_answer c.before.got-1.given.1)
+      (sym called.sh_page_entries_into-got.ensures.0 ∙ ap entries_answer c.in-Entries.is)
 
   long : length page ≡ page_size
   long = entries_long (length called.before.before.before.before.args.out.now) page found.0 found.1
@@ -66,13 +66,12 @@ shape_of-out-in_default c = search rules
 
 returns-in_default : tie.Need-returns-in_default
 returns-in_default c =
-    let told = c.before.enum_told-1.given in
-    let d = c.before.before.before.before.before in
+    let d = c.before.before.before.before in
     let a = d.before.before.before.before.args in
     let stop = was_refused (entries_read_of a.page.now) (page_entries (length a.out.now) a.page.now)
     (sym d.sh_page_entries_into-got.ensures.0
-    ∙ ap entries_answer told.1) in (
-      ap refused (c.refusal.ensures ∙ ap (λ (g : PageEntries). refusal_of (entries_answer g)) told.1)
+    ∙ ap entries_answer c.before.in_default.is) in (
+      ap refused (c.refusal.ensures ∙ ap (λ (g : PageEntries). refusal_of (entries_answer g)) c.before.in_default.is)
           ∙ sym (answered_no (page_read_of a.page.now) (page_entries (length a.out.now) a.page.now) stop),
       d.sh_page_entries_into-got.ensures.1,
     )

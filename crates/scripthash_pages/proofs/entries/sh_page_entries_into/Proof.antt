@@ -23,15 +23,15 @@ use Rattle.scripthash_pages.proofs.entries.sh_page_entries_into.Tie as tie
 -- the stream has a place
 module _ (c : tie.In-At) where
   abbrev page : List ℕ
-  page = c.before.before.before.before.before.before.args.page.now
+  page = c.before.before.before.before.args.page.now
 
   abbrev place : StreamAt
-  place = record { off = c.before.place-1.given.0.0; count = c.before.place-1.given.0.1.0 }
+  place = record { off = c.in-At.off; count = c.in-At.count }
 
   is : stream_place page ≡ accepted place
-  is = sym c.before.before.before.stream_place-place.ensures ∙ ap stream_place_answer c.before.place-1.given.1
+  is = sym c.before.stream_place-place.ensures ∙ ap stream_place_answer c.in-At.is
 
-  within : c.before.place-1.given.0.0 ≤ length page
+  within : c.in-At.off ≤ length page
   within = let placed = place_accepted page place is in omega arith
 
 -- the decoder was lent the part from there on
@@ -40,7 +40,7 @@ module _ (c : tie.After-decode_fk_delta_stream_into-got) where
   at = c.before.before.before
 
   abbrev out : List ℕ
-  out = at.before.before.before.before.before.before.args.out.now
+  out = at.before.before.before.before.args.out.now
 
   abbrev decoded : Answer Scan
   decoded = page_entries (length out) (page at)
@@ -58,7 +58,7 @@ module _ (c : tie.After-decode_fk_delta_stream_into-got) where
   counts : padded_in (place at).count rest ≡ page_padded (page at)
   counts = ap (padded_in (place at).count) (part_to_end (page at) (place at).off) ∙ padded_at (page at) (place at) (is at)
 
-  list : c.decode_fk_delta_stream_into-got.new.1.1.0 ≡ after_decode out decoded
+  list : c.decode_fk_delta_stream_into-got.new.out ≡ after_decode out decoded
   list = c.decode_fk_delta_stream_into-got.ensures.1 ∙ ap (after_decode out) same
 
 stream_place-place-requires : tie.Need-stream_place-place-requires
@@ -75,11 +75,10 @@ refusal-requires c κs = search rules
 
 returns-in_default : tie.Need-returns-in_default
 returns-in_default c =
-    let told = c.before.enum_told-1.given in
-    let a = c.before.before.before.before.before.before.args in
-    let stop = entries_no (length a.out.now) a.page.now (sym c.before.before.before.stream_place-place.ensures
-    ∙ ap stream_place_answer told.1) in (
-      ap refused (c.refusal.ensures ∙ ap (λ (g : StreamPlace). refusal_of (stream_place_answer g)) told.1)
+    let a = c.before.before.before.before.before.args in
+    let stop = entries_no (length a.out.now) a.page.now (sym c.before.before.stream_place-place.ensures
+    ∙ ap stream_place_answer c.before.in_default.is) in (
+      ap refused (c.refusal.ensures ∙ ap (λ (g : StreamPlace). refusal_of (stream_place_answer g)) c.before.in_default.is)
           ∙ sym (answered_no (entries_read_of a.page.now) (page_entries (length a.out.now) a.page.now) stop),
       sym (after_refused a.out.now (page_entries (length a.out.now) a.page.now) stop),
     )
@@ -110,10 +109,9 @@ shape_of-out-in_default-got c = search rules
 
 returns-in_default-got : tie.Need-returns-in_default-got
 returns-in_default-got c =
-    let d = c.before.before.before.before.before in
-    let told = c.before.enum_told-in_default-got-1.given in
-    let stop = was_refused (stream_told (place (at d)).count (rest d)) (decoded d) (sym (answer d) ∙ ap stream_read_answer told.1) in (
-      ap refused (c.refusal-in_default-got.ensures ∙ ap (λ (g : StreamRead). refusal_of (stream_read_answer g)) told.1)
+    let d = c.before.before.before.before in
+    let stop = was_refused (stream_told (place (at d)).count (rest d)) (decoded d) (sym (answer d) ∙ ap stream_read_answer c.before.in_default-got.is) in (
+      ap refused (c.refusal-in_default-got.ensures ∙ ap (λ (g : StreamRead). refusal_of (stream_read_answer g)) c.before.in_default-got.is)
           ∙ sym (answered_no (entries_read_of (page (at d))) (decoded d) stop),
       list d,
     )
@@ -123,12 +121,11 @@ shape_of-out c = search rules
 
 returns : tie.Need-returns
 returns c =
-    let d = c.before.before.before.before.before in
-    let told = c.before.got-1.given in
-    let got = was_accepted (stream_told (place (at d)).count (rest d)) (decoded d) (sym (answer d) ∙ ap stream_read_answer told.1) in
+    let d = c.before.before.before in
+    let got = was_accepted (stream_told (place (at d)).count (rest d)) (decoded d) (sym (answer d) ∙ ap stream_read_answer c.in-Read.is) in
     let known = scan_accepted 0 _ _ _ (decode_accepted (length (out d)) _ _ (same d ∙ got.1)).0 in
     let counted = sym (ap (λ (t : StreamTold). t.padded) got.2) ∙ counts d in (
-      ap (λ (n : ℕ). accepted (record { count = n; padded = told.0.1.0 })) (sym known.counted)
+      ap (λ (n : ℕ). accepted (record { count = n; padded = c.in-Read.padded })) (sym known.counted)
           ∙ ap (λ (m : ℕ). accepted (record { count = length got.0.numbers; padded = m })) counted
           ∙ sym (answered_yes (entries_read_of (page (at d))) (decoded d) got.1),
       list d,

@@ -24,19 +24,17 @@ refusal-requires c κs = search rules
 
 returns-in_default : tie.Need-returns-in_default
 returns-in_default c =
-    let told = c.before.enum_told-1.given in
-    let page = c.before.before.before.before.before.args.page.now in
-    let stop = was_refused (end_from 0) (page_scan page) (sym c.before.before.before.sh_page_stream_tail-tail.ensures
-    ∙ ap scan_answer told.1) in
-    ap refused (c.refusal.ensures ∙ ap (λ (g : ScanStream). refusal_of (scan_answer g)) told.1)
+    let page = c.before.before.before.before.args.page.now in
+    let stop = was_refused (end_from 0) (page_scan page) (sym c.before.before.sh_page_stream_tail-tail.ensures
+    ∙ ap scan_answer c.before.in_default.is) in
+    ap refused (c.refusal.ensures ∙ ap (λ (g : ScanStream). refusal_of (scan_answer g)) c.before.in_default.is)
     ∙ sym (answered_no last_of (page_scan page) stop)
 
 returns : tie.Need-returns
 returns c =
-    let told = c.before.tail-1.given in
-    let page = c.before.before.before.before.before.args.page.now in
-    let found = was_accepted (end_from 0) (page_scan page) (sym c.before.before.before.sh_page_stream_tail-tail.ensures
-    ∙ ap scan_answer told.1) in
+    let page = c.before.before.before.args.page.now in
+    let found = was_accepted (end_from 0) (page_scan page) (sym c.before.sh_page_stream_tail-tail.ensures
+    ∙ ap scan_answer c.in-Scanned.is) in
     ap accepted (sym (ap (λ (e : End). e.last) found.2)) ∙ sym (answered_yes last_of (page_scan page) found.1)
 
 pub sh_page_last_fk_spec : {M : Type 1} → statement M

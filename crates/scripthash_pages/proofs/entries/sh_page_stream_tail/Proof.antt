@@ -19,15 +19,15 @@ use Rattle.scripthash_pages.proofs.entries.sh_page_stream_tail.Tie as tie
 -- the stream has a place
 module _ (c : tie.In-At) where
   abbrev page : List ℕ
-  page = c.before.before.before.before.before.args.page.now
+  page = c.before.before.before.args.page.now
 
   abbrev place : StreamAt
-  place = record { off = c.before.place-1.given.0.0; count = c.before.place-1.given.0.1.0 }
+  place = record { off = c.in-At.off; count = c.in-At.count }
 
   is : stream_place page ≡ accepted place
-  is = sym c.before.before.before.stream_place-place.ensures ∙ ap stream_place_answer c.before.place-1.given.1
+  is = sym c.before.stream_place-place.ensures ∙ ap stream_place_answer c.in-At.is
 
-  within : c.before.place-1.given.0.0 ≤ length page
+  within : c.in-At.off ≤ length page
   within = let placed = place_accepted page place is in omega arith
 
 stream_place-place-requires : tie.Need-stream_place-place-requires
@@ -44,10 +44,9 @@ refusal-requires c κs = search rules
 
 returns-in_default : tie.Need-returns-in_default
 returns-in_default c =
-    let told = c.before.enum_told-1.given in
-    let page = c.before.before.before.before.before.args.page.now in
-    let stop = scan_no page (sym c.before.before.before.stream_place-place.ensures ∙ ap stream_place_answer told.1) in
-    ap refused (c.refusal.ensures ∙ ap (λ (g : StreamPlace). refusal_of (stream_place_answer g)) told.1)
+    let page = c.before.before.before.before.args.page.now in
+    let stop = scan_no page (sym c.before.before.stream_place-place.ensures ∙ ap stream_place_answer c.before.in_default.is) in
+    ap refused (c.refusal.ensures ∙ ap (λ (g : StreamPlace). refusal_of (stream_place_answer g)) c.before.in_default.is)
     ∙ sym (answered_no (end_from 0) (page_scan page) stop)
 
 slice_bounds-scan_fk_delta_stream-count : tie.Need-slice_bounds-scan_fk_delta_stream-count

@@ -18,10 +18,10 @@ use Rattle.scripthash_pages.proofs.entries.stream_place.Tie as tie
 -- a page that can be read
 module _ (c : tie.In-Done) where
   abbrev page : List ℕ
-  page = c.before.before.before.before.args.page.now
+  page = c.before.before.before.args.page.now
 
   passes : require_delta page ≡ accepted tt
-  passes = sym c.before.before.sh_page_require_delta-passed.ensures ∙ ap done_answer c.enum_told-1.given.1
+  passes = sym c.before.sh_page_require_delta-passed.ensures ∙ ap done_answer c.in-Done.is
 
   long : length page ≡ page_size
   long = delta_long page passes
@@ -40,8 +40,8 @@ refusal-requires c κs = search rules
 
 returns-in_default : tie.Need-returns-in_default
 returns-in_default c =
-    let told = c.before.enum_told-in_default-1.given.1 in
-    let d = c.before.before.before in
+    let told = c.before.in_default.is in
+    let d = c.before.before in
     ap refused (c.refusal.ensures ∙ ap (λ (g : PageDone). refusal_of (done_answer g)) told)
     ∙ sym (place_refused d.before.before.args.page.now (sym d.sh_page_require_delta-passed.ensures ∙ ap done_answer told))
 

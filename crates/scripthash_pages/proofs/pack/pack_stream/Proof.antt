@@ -41,13 +41,13 @@ module _ (c : tie.After-encode_fk_delta_stream_into-got) where
   header = take off page
 
   abbrev out : List ℕ
-  out = c.encode_fk_delta_stream_into-got.new.0
+  out = c.encode_fk_delta_stream_into-got.new.out
 
   inside : off ≤ length page
   inside = omega arith
 
   room : page_size - length header ≡ length page - off
-  room = omega (arith, length-take-le off page inside, start.pre.0)
+  room = omega (arith, length-take-le off page inside, start.requires.0)
 
   answer : encode_stream (length page - off) fks ≡ bytes_answer c.encode_fk_delta_stream_into-got.result
   answer = sym (c.encode_fk_delta_stream_into-got.ensures.0 ∙ ap (λ (r : ℕ). encode_stream r fks) (length_lent page off inside))
@@ -55,13 +55,13 @@ module _ (c : tie.After-encode_fk_delta_stream_into-got) where
 -- and wrote the stream there
 module _ (c : tie.In-Bytes) where
   abbrev enc : tie.After-encode_fk_delta_stream_into-got
-  enc = c.before.before.before.before.before
+  enc = c.before.before.before
 
   abbrev len : ℕ
-  len = c.before.got-1.given.0.0
+  len = c.in-Bytes.len
 
   is : encode_stream (length (page enc) - off enc) (fks enc) ≡ accepted len
-  is = answer enc ∙ ap bytes_answer c.before.got-1.given.1
+  is = answer enc ∙ ap bytes_answer c.in-Bytes.is
 
   ends : length (stream (fks enc)) ≡ len
   ends = let h = encode_accepted (length (page enc) - off enc) (fks enc) is in length_stream 0 (fks enc) ∙ h.2
@@ -70,7 +70,7 @@ module _ (c : tie.In-Bytes) where
   within =
       let h = encode_accepted (length (page enc) - off enc) (fks enc) is in
       let i = inside enc in
-      let whole = (start enc).pre.0 in
+      let whole = (start enc).requires.0 in
       omega (arith, h.1, h.2)
 
   abbrev between : List ℕ
@@ -81,7 +81,7 @@ module _ (c : tie.In-Bytes) where
 
   between_long : off enc + len ≤ length between
   between_long =
-      let whole = (start enc).pre.0 in
+      let whole = (start enc).requires.0 in
       let size = ends in
       let fits = within in
       omega (arith, ap length between_is ∙ length_overwrite (page enc) (off enc) (stream (fks enc)) (omega arith))
@@ -118,12 +118,11 @@ shape_of-page-in_default c = search rules
 
 returns-in_default : tie.Need-returns-in_default
 returns-in_default c =
-    let told = c.before.enum_told-1.given in
-    let d = c.before.before.before.before.before in
-    let stop : encode_stream (length (page d) - off d) (fks d) ≡ refused told.0.0 = answer d ∙ ap bytes_answer told.1 in
+    let d = c.before.before.before.before in
+    let stop : encode_stream (length (page d) - off d) (fks d) ≡ refused c.before.in_default.field-0 = answer d ∙ ap bytes_answer c.before.in_default.is in
     let stopped = packed_stop (header d) (fks d) (omega arith) (ap (λ (r : ℕ). encode_stream r (fks d)) (room d) ∙ stop) in
     let no = set_no (page d) (packed (header d) (fks d)) stopped in (
-      ap refused (c.refusal.ensures ∙ ap (λ (g : StreamBytes). refusal_of (bytes_answer g)) told.1) ∙ no.0,
+      ap refused (c.refusal.ensures ∙ ap (λ (g : StreamBytes). refusal_of (bytes_answer g)) c.before.in_default.is) ∙ no.0,
       lent_no (page d) (off d) (inside d) (fks d) (out d) d.encode_fk_delta_stream_into-got.ensures.1 stop ∙ no.1,
     )
 
@@ -154,7 +153,7 @@ returns c =
     let fits : off e + length s ≤ page_size = omega (arith, within k) in
     set_yes (page e) _ (packed (header e) (fks e))
     (packed_fits (header e) (fks e) (omega arith) (ap (λ (r : ℕ). encode_stream r (fks e)) (room e) ∙ is k))
-    (stream_cleared (page e) (off e) s (between k) (off e + len k) c.before.before.clear.new.0 (start e).pre.0 fits end
+    (stream_cleared (page e) (off e) s (between k) (off e + len k) c.before.before.clear.new.page (start e).requires.0 fits end
     (between_is k)
     c.before.before.clear.ensures)
 

@@ -21,12 +21,12 @@ module _ (c : tie.After-put_u16) where
   abbrev start : tie.Start
   start = c.before.before.before
 
-  long : length c.put_u16.new.0 ≡ page_size
+  long : length c.put_u16.new.b ≡ page_size
   long =
       ap length c.put_u16.ensures ∙ one_more_length start.args.page.now start.args.version start.args.n (omega arith)
-      ∙ start.pre
+      ∙ start.requires
 
-  written : c.put_u16.new.0 ≡ overwrite (overwrite start.args.page.now 0 (bytes_of 1 start.args.version)) 1
+  written : c.put_u16.new.b ≡ overwrite (overwrite start.args.page.now 0 (bytes_of 1 start.args.version)) 1
       (bytes_of 2 start.args.n)
   unfolding set_field
   written =
@@ -48,7 +48,7 @@ shape_of-page c =
     let d = c.before.before.before.before.before.before in
     let whole = long d in
     ap length c.before.before.put_u40.ensures
-    ∙ length_overwrite d.put_u16.new.0 3 (bytes_of 5 (start d).args.link) (omega arith) ∙ whole ∙ sym (start d).requires
+    ∙ length_overwrite d.put_u16.new.b 3 (bytes_of 5 (start d).args.link) (omega arith) ∙ whole ∙ sym (start d).requires
 
 returns : tie.Need-returns
 returns c =

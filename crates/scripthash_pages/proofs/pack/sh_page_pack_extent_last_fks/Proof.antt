@@ -61,25 +61,25 @@ module _ (c : tie.After-check_link-named) where
 -- the stream was offered
 module _ (c : tie.After-pack_stream-packed) where
   abbrev tested : tie.After-check_extent-good
-  tested = c.before.before.before.before
+  tested = c.before.before.before
 
   abbrev at : tie.After-check_link-named
-  at = tested.before.before.before
+  at = tested.before.before
 
   abbrev out : List ℕ
-  out = c.pack_stream-packed.new.0
+  out = c.pack_stream-packed.new.page
 
   as_packed : pack_extent (page at) (fks at) (base at) (count at) (next at) ≡ packed (header at) (fks at)
   unfolding pack_extent
   as_packed =
       page_yes (page at) _ (long at)
-      ∙ link_yes (linked (base at) (next at)) _ (named at ∙ ap done_answer tested.before.enum_told-1.given.1)
-      ∙ extent_yes (base at) (count at) _ (sym tested.check_extent-good.ensures ∙ ap done_answer c.before.before.enum_told-in-Done-good-1.given.1)
+      ∙ link_yes (linked (base at) (next at)) _ (named at ∙ ap done_answer tested.before.in-Done.is)
+      ∙ extent_yes (base at) (count at) _ (sym tested.check_extent-good.ensures ∙ ap done_answer c.before.before.in-Done-good.is)
 
 -- and accepted
 module _ (c : tie.In-Done-packed) where
   abbrev offer : tie.After-pack_stream-packed
-  offer = c.before.before.before.before
+  offer = c.before.before.before
 
   good : (length (fks (at offer)) ≤ max_offered)
       × (packed (header (at offer)) (fks (at offer)) ≡ accepted (page_of (header (at offer)) (stream (fks (at offer)))))
@@ -87,7 +87,7 @@ module _ (c : tie.In-Done-packed) where
   good =
       let k = at offer in
       behind_yes (page k) (fks k) (header k) 24 (inside k) (size k) (out offer) offer.pack_stream-packed.ensures.1
-      (sym offer.pack_stream-packed.ensures.0 ∙ ap done_answer c.enum_told-in-Done-packed-1.given.1)
+      (sym offer.pack_stream-packed.ensures.0 ∙ ap done_answer c.in-Done-packed.is)
 
 -- the header's two writes adjoin
 header_put : (b : List ℕ) (n l base count : ℕ)
@@ -118,8 +118,8 @@ enum_told-in_default c = search rules
 returns-in_default : tie.Need-returns-in_default
 unfolding pack_extent
 returns-in_default c =
-    let told = c.enum_told-in_default-1.given.1 in
-    let k = c.before.before in
+    let told = c.in_default.is in
+    let k = c.before in
     let no = set_no (page k) (pack_extent (page k) (fks k) (base k) (count k) (next k))
     (page_yes (page k) _ (long k) ∙ link_no (linked (base k) (next k)) _ (named k ∙ ap done_answer told)) in
     (ap done_answer told ∙ no.0, no.1)
@@ -136,11 +136,11 @@ enum_told-in_default-good c = search rules
 returns-in_default-good : tie.Need-returns-in_default-good
 unfolding pack_extent
 returns-in_default-good c =
-    let told = c.enum_told-in_default-good-1.given.1 in
-    let d = c.before.before in
-    let k = d.before.before.before in
+    let told = c.in_default-good.is in
+    let d = c.before in
+    let k = d.before.before in
     let no = set_no (page k) (pack_extent (page k) (fks k) (base k) (count k) (next k))
-    (page_yes (page k) _ (long k) ∙ link_yes (linked (base k) (next k)) _ (named k ∙ ap done_answer d.before.enum_told-1.given.1)
+    (page_yes (page k) _ (long k) ∙ link_yes (linked (base k) (next k)) _ (named k ∙ ap done_answer d.before.in-Done.is)
     ∙ extent_no (base k) (count k) _ (sym d.check_extent-good.ensures ∙ ap done_answer told)) in
     (ap done_answer told ∙ no.0, no.1)
 
@@ -158,8 +158,8 @@ shape_of-page-in_default-packed c = search rules
 
 returns-in_default-packed : tie.Need-returns-in_default-packed
 returns-in_default-packed c =
-    let told = c.enum_told-in_default-packed-1.given.1 in
-    let d = c.before.before.before.before in
+    let told = c.in_default-packed.is in
+    let d = c.before.before.before in
     let k = at d in
     let stop = behind_no (page k) (fks k) (header k) 24 (inside k) (size k) (out d) d.pack_stream-packed.ensures.1
     (sym d.pack_stream-packed.ensures.0 ∙ ap done_answer told) in

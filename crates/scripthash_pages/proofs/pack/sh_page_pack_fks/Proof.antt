@@ -51,21 +51,21 @@ module _ (c : tie.After-check_link-named) where
 -- the stream was offered
 module _ (c : tie.After-pack_stream-packed) where
   abbrev at : tie.After-check_link-named
-  at = c.before.before.before.before
+  at = c.before.before.before
 
   abbrev out : List ℕ
-  out = c.pack_stream-packed.new.0
+  out = c.pack_stream-packed.new.page
 
   as_packed : pack_page (page at) (fks at) (next at) ≡ packed (header at) (fks at)
   unfolding pack_page
   as_packed =
       page_yes (page at) _ (long at)
-      ∙ link_yes (next at) _ (sym at.check_link-named.ensures ∙ ap done_answer c.before.before.enum_told-1.given.1)
+      ∙ link_yes (next at) _ (sym at.check_link-named.ensures ∙ ap done_answer c.before.before.in-Done.is)
 
 -- and accepted
 module _ (c : tie.In-Done-packed) where
   abbrev offer : tie.After-pack_stream-packed
-  offer = c.before.before.before.before
+  offer = c.before.before.before
 
   good : (length (fks (at offer)) ≤ max_offered)
       × (packed (header (at offer)) (fks (at offer)) ≡ accepted (page_of (header (at offer)) (stream (fks (at offer)))))
@@ -73,7 +73,7 @@ module _ (c : tie.In-Done-packed) where
   good =
       let k = at offer in
       behind_yes (page k) (fks k) (header k) 8 (inside k) (size k) (out offer) offer.pack_stream-packed.ensures.1
-      (sym offer.pack_stream-packed.ensures.0 ∙ ap done_answer c.enum_told-in-Done-packed-1.given.1)
+      (sym offer.pack_stream-packed.ensures.0 ∙ ap done_answer c.in-Done-packed.is)
 
 returns-then-page-ne-SH_PAGE_SIZE : tie.Need-returns-then-page-ne-SH_PAGE_SIZE
 unfolding pack_page
@@ -93,8 +93,8 @@ enum_told-in_default c = search rules
 returns-in_default : tie.Need-returns-in_default
 unfolding pack_page
 returns-in_default c =
-    let told = c.enum_told-in_default-1.given.1 in
-    let k = c.before.before in
+    let told = c.in_default.is in
+    let k = c.before in
     let no = set_no (page k) (pack_page (page k) (fks k) (next k))
     (page_yes (page k) _ (long k) ∙ link_no (next k) _ (sym k.check_link-named.ensures ∙ ap done_answer told)) in
     (ap done_answer told ∙ no.0, no.1)
@@ -113,8 +113,8 @@ shape_of-page-in_default-packed c = search rules
 
 returns-in_default-packed : tie.Need-returns-in_default-packed
 returns-in_default-packed c =
-    let told = c.enum_told-in_default-packed-1.given.1 in
-    let d = c.before.before.before.before in
+    let told = c.in_default-packed.is in
+    let d = c.before.before.before in
     let k = at d in
     let stop = behind_no (page k) (fks k) (header k) 8 (inside k) (size k) (out d) d.pack_stream-packed.ensures.1
     (sym d.pack_stream-packed.ensures.0 ∙ ap done_answer told) in

@@ -47,7 +47,7 @@ returns : tie.Need-returns
 returns c s e h =
     let f = c.before.before in
     let a = f.before.before.before.before.before.before.before.args in
-    filled_front a.n a.buf.now a.out.now f.fill_all.new.1.1.0 s e (f.fill_all.ensures s e)
+    filled_front a.n a.buf.now a.out.now f.fill_all.new.out s e (f.fill_all.ensures s e)
 
 pub fill_fk_delta_stream_spec : {M : Type 1} → statement M
 fill_fk_delta_stream_spec =

@@ -21,7 +21,7 @@ returns-then-end-eq0 c s e =
     let d = c.before.before in
     let q = d.before.before.before.before.before.before in
     let a = q.before.before.before.before.args in
-    let after = q.sum_forms-end.new.1.1.1.1.0 in
+    let after = q.sum_forms-end.new.space in
     let size : length after ≡ a.n = search rules in
     filled_whole a.n a.buf.now after _ s e size (filled a.n a.buf.now after _ s e (omega arith)
     d.decode_in_two_passes.ensures.1)
@@ -33,7 +33,7 @@ returns-else-end-eq0 : tie.Need-returns-else-end-eq0
 returns-else-end-eq0 c s e =
     let q = c.before.before.before.before in
     let a = q.before.before.before.before.args in
-    let after = q.sum_forms-end.new.1.1.1.1.0 in
+    let after = q.sum_forms-end.new.space in
     let size : length after ≡ a.n = search rules in
     filled_summed q.sum_forms-end.result.taken q.sum_forms-end.result.last a.n a.buf.now after s e q.sum_forms-end.ensures
     (omega (arith, c.if-end-eq0.false)) size

@@ -40,7 +40,7 @@ returns c =
     let w = s.before.before.before.before.before in
     let a = w.before.before.before.before.before.before.args in
     let none : w.read_by_words-taken.result ≡ 0 = omega arith in
-    short_again s.read_singly.result a.top a.out.now w.read_by_words-taken.new.1.1.1.0 _ _ (rw none at
+    short_again s.read_singly.result a.top a.out.now w.read_by_words-taken.new.out _ _ (rw none at
     w.read_by_words-taken.ensures)
     s.read_singly.ensures
 

@@ -31,7 +31,7 @@ shape_of-out c = search rules
 
 returns : tie.Need-returns
 returns c =
-    let e = c.before.before.before.before.before in
+    let e = c.before.before.before.before in
     let f = e.before.before in
     let q = f.before.before.before.before in
     let a = q.before.before.before.before.before.args in

@@ -58,13 +58,13 @@ loop-i-preserved : tie.Need-loop-i-preserved invariant_loop decreases_loop
 loop-i-preserved c =
     let l = (loc c).loop-i in
     let least = c.before.before.before.smaller-least in (
-      l.inv.0,
+      l.invariant.0,
       search rules,
       search rules,
-      l.inv.3,
+      l.invariant.3,
       looked_next (bytes c) (two_go_on (bytes c)) (loc c).before.before.args.from l.i l.least l.most least.result
           c.larger-most.result
-          c.before.smaller.result l.inv.4 (least.ensures.0, least.ensures.1) c.larger-most.ensures
+          c.before.smaller.result l.invariant.4 (least.ensures.0, least.ensures.1) c.larger-most.ensures
           c.before.smaller.ensures.2,
     )
 

@@ -65,16 +65,16 @@ loop-k-preserved c =
     let a = (args c).args in
     let x = l.sum + c.wide-sum.result in
     let next : next_number l.sum (drop l.k a.buf.now) ≡ accepted (record { value = x; len = 1 }) =
-    next_byte a.buf.now a.n l.sum l.k l.inv.1 (omega arith) l.inv.4
+    next_byte a.buf.now a.n l.sum l.k l.invariant.1 (omega arith) l.invariant.4
     ∙ ap (λ (b : ℕ). accepted (record { value = l.sum + b; len = 1 })) (sym c.wide-sum.ensures) in (
       search rules,
-      l.inv.1,
-      l.inv.2,
-      simp length-set l.inv.3,
+      l.invariant.1,
+      l.invariant.2,
+      simp length-set l.invariant.3,
       most c,
-      drop-set-lt (l.k + 1) l.out l.k x (omega arith) ∙ sym (drop-drop 1 l.k l.out) ∙ ap (drop 1) l.inv.5
+      drop-set-lt (l.k + 1) l.out l.k x (omega arith) ∙ sym (drop-drop 1 l.k l.out) ∙ ap (drop 1) l.invariant.5
           ∙ drop-drop 1 l.k a.out.now,
-      summed_next a.buf.now 0 0 a.n l.out l.sum l.k l.k l.inv.6 _ next (omega arith),
+      summed_next a.buf.now 0 0 a.n l.out l.sum l.k l.k l.invariant.6 _ next (omega arith),
     )
 
 shape_of-out : tie.Need-shape_of-out invariant_loop decreases_loop

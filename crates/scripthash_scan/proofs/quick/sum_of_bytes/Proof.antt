@@ -52,11 +52,11 @@ loop-k-preserved : tie.Need-loop-k-preserved invariant_loop decreases_loop
 loop-k-preserved c =
     let l = (loc c).loop-k in
     let a = (args c).args in
-    let next = next_byte a.buf.now a.n l.sum l.k l.inv.1 (omega arith) l.inv.2 in (
+    let next = next_byte a.buf.now a.n l.sum l.k l.invariant.1 (omega arith) l.invariant.2 in (
       search rules,
-      l.inv.1,
+      l.invariant.1,
       most c,
-      rw c.wide-sum.ensures (ends_next a.buf.now a.n l.k l.sum l.k _ (omega arith) next ∙ l.inv.3),
+      rw c.wide-sum.ensures (ends_next a.buf.now a.n l.k l.sum l.k _ (omega arith) next ∙ l.invariant.3),
     )
 
 returns : tie.Need-returns invariant_loop decreases_loop

@@ -56,18 +56,17 @@ shape_of-out-in_default c = search rules
 
 returns-in_default : tie.Need-returns-in_default
 returns-in_default c =
-    let d = c.before.before.before.before.before in
-    let told = c.before.enum_told-1.given in
-    let stop = was_refused (λ s. s.taken) (decoded d) (sym d.read_stream-got.ensures.0 ∙ ap bytes_answer told.1) in (
-      ap refused (c.refusal.ensures ∙ ap (λ (g : StreamBytes). refusal_of (bytes_answer g)) told.1)
+    let d = c.before.before.before.before in
+    let stop = was_refused (λ s. s.taken) (decoded d) (sym d.read_stream-got.ensures.0 ∙ ap bytes_answer c.before.in_default.is) in (
+      ap refused (c.refusal.ensures ∙ ap (λ (g : StreamBytes). refusal_of (bytes_answer g)) c.before.in_default.is)
           ∙ sym (answered_no (stream_told (args d).args.n (args d).args.buf.now) (decoded d) stop),
       d.read_stream-got.ensures.1,
     )
 
 count_padded-requires : tie.Need-count_padded-requires
 count_padded-requires c κs =
-    let d = c.before.before.before.before.before in
-    (read d c.before.got-1.given.0.0 (ap bytes_answer c.before.got-1.given.1)).within
+    let d = c.before.before.before in
+    (read d c.in-Bytes.taken (ap bytes_answer c.in-Bytes.is)).within
 
 shape_of-out : tie.Need-shape_of-out
 shape_of-out c = search rules
@@ -75,9 +74,9 @@ shape_of-out c = search rules
 returns : tie.Need-returns
 returns c =
     let k = c.before in
-    let d = k.before.before.before.before.before in
-    let len = k.before.got-1.given.0.0 in
-    let r = read d len (ap bytes_answer k.before.got-1.given.1) in (
+    let d = k.before.before.before in
+    let len = k.in-Bytes.taken in
+    let r = read d len (ap bytes_answer k.in-Bytes.is) in (
       ap (λ (m : ℕ). accepted (record { taken = len; padded = m })) (c.count_padded.ensures r.scanned r.scans r.taken)
           ∙ ap (λ (t : ℕ). accepted (record { taken = t; padded = padded_in (args d).args.n (args d).args.buf.now }))
           (sym r.taken)

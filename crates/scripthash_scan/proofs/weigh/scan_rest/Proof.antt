@@ -15,7 +15,7 @@ returns-then-to-eq0 c = quick_end_none _
 
 overflow_sub-to : tie.Need-overflow_sub-to
 overflow_sub-to c =
-    let end = c.before.end_of_lem.ensures (omega arith) in
+    let end = c.before.end_of-to.ensures (omega arith) in
     omega (arith, end.1)
 
 returns-then-to-from-gt-MOST_BYTES : tie.Need-returns-then-to-from-gt-MOST_BYTES
@@ -26,7 +26,7 @@ overflow_sub-to-2 c = search rules
 
 bounds-buf-to : tie.Need-bounds-buf-to
 bounds-buf-to c =
-    let end = c.before.before.before.end_of_lem.ensures (omega arith) in
+    let end = c.before.before.before.end_of-to.ensures (omega arith) in
     omega (arith, end.1, end.2)
 
 returns-then-buf-to-ge128 : tie.Need-returns-then-buf-to-ge128
@@ -34,7 +34,7 @@ returns-then-buf-to-ge128 c = quick_end_none _
 
 weigh_all-more-requires : tie.Need-weigh_all-more-requires
 weigh_all-more-requires c κs =
-    let end = c.before.before.before.before.end_of_lem.ensures (omega arith) in
+    let end = c.before.before.before.before.end_of-to.ensures (omega arith) in
     (omega arith, end.1, end.2, omega (arith, end.1), c.before.before.before.before.before.before.requires.2)
 
 returns-then-more-eq0 : tie.Need-returns-then-more-eq0
@@ -54,7 +54,7 @@ unfolding QuickEnd
 returns c h =
     let start = c.before.before.before.before.before.before.before.before.before.before.before.before in
     let a = start.args in
-    let end = c.before.before.before.before.before.before.before.before.before.before.end_of_lem in
+    let end = c.before.before.before.before.before.before.before.before.before.before.end_of-to in
     let is = end.ensures (omega arith) in
     let more = c.before.before.before.before.before.weigh_all-more in
     let told = more.ensures (omega arith) in

@@ -96,7 +96,7 @@ loop-i-preserved : tie.Need-loop-i-preserved invariant_loop decreases_loop
 loop-i-preserved c =
     let l = c.before.before.before.before.before.before.before.before.before.before.before.loop-i in
     let p = c.before.before.before.before.before.before.before.before.before.pieces_at-p.ensures in
-    let fourth = c.before.before.before.before.before.before.before.behind.ensures in
+    let fourth = c.before.before.before.before.before.before.before.behind-p3.ensures in
     let fifth = c.before.behind.ensures in
     let buf = c.before.before.before.before.before.before.before.before.before.before.before.before.before.args.buf.now in
     let three = behind_next buf l.i 3 (two_before buf l.i) fourth.0 p.2 in
@@ -106,7 +106,7 @@ loop-i-preserved c =
       search rules,
       l.invariant.3,
       l.invariant.4,
-      rw c.before.before.before.before.before.before.added.ensures (adds_next l.invariant.5 p.0 p.3),
+      rw c.before.before.before.before.before.before.added-a0.ensures (adds_next l.invariant.5 p.0 p.3),
       rw c.before.before.before.before.before.added-a1.ensures (adds_next l.invariant.6 p.1 p.4),
       rw c.before.before.before.before.added-a2.ensures (adds_next l.invariant.7 p.2 p.5),
       rw c.before.before.before.added-a3.ensures (adds_next l.invariant.8 three (omega (arith, fourth.1, p.5))),

@@ -81,7 +81,7 @@ loop-i-preserved c =
     let l = c.before.before.before.before.before.before.before.before.before.before.before.before.loop-i in
     let p = c.before.before.before.before.before.before.before.before.before.before.pieces_at-p.ensures in
     let q = c.before.before.before.before.before.before.before.before.before.pieces_at-q.ensures in
-    let first = c.before.before.before.before.before.before.added.ensures in (
+    let first = c.before.before.before.before.before.before.added-a0.ensures in (
       l.invariant.0,
       search rules,
       search rules,

@@ -37,7 +37,7 @@ added-a0-requires : tie.Need-added-a0-requires invariant_loop decreases_loop
 added-a0-requires c κs = search rules
 
 overflow_add-a0 : tie.Need-overflow_add-a0 invariant_loop decreases_loop
-overflow_add-a0 c = omega (arith, c.added.ensures, c.before.pieces_at-p.ensures.3, c.before.before.before.loop-i.invariant.5.most)
+overflow_add-a0 c = omega (arith, c.added-a0.ensures, c.before.pieces_at-p.ensures.3, c.before.before.before.loop-i.invariant.5.most)
 
 added-a1-requires : tie.Need-added-a1-requires invariant_loop decreases_loop
 added-a1-requires c κs = search rules
@@ -62,7 +62,7 @@ loop-i-preserved c =
       search rules,
       l.invariant.3,
       l.invariant.4,
-      adds_next l.invariant.5 (c.before.added.ensures ∙ p.0) (omega (arith, c.before.added.ensures, p.3)),
+      adds_next l.invariant.5 (c.before.added-a0.ensures ∙ p.0) (omega (arith, c.before.added-a0.ensures, p.3)),
       adds_next l.invariant.6 (c.added-a1.ensures ∙ p.1) (omega (arith, c.added-a1.ensures, p.4)),
     )
 

@@ -75,7 +75,7 @@ module _ (c : tie.After-decode_fk_delta_stream_into-got) where
         within = omega (arith, ap (λ (t : StreamTold). t.taken) got.2);
       }
 
-  list : c.decode_fk_delta_stream_into-got.new.1.1.0 ≡ after_decode out decoded
+  list : c.decode_fk_delta_stream_into-got.new.out ≡ after_decode out decoded
   list = c.decode_fk_delta_stream_into-got.ensures.1 ∙ ap (after_decode out) slab
 
 returns-then-buf-lt2 : tie.Need-returns-then-buf-lt2
@@ -118,21 +118,20 @@ shape_of-out-in_default c = search rules
 
 returns-in_default : tie.Need-returns-in_default
 returns-in_default c =
-    let d = c.before.before.before.before.before in
-    let told = c.before.enum_told-1.given in
-    let stop = was_refused (stream_told (used d) (rest d)) (decoded d) (sym (answer d) ∙ ap stream_read_answer told.1) in (
-      ap refused (c.refusal.ensures ∙ ap (λ (g : StreamRead). refusal_of (stream_read_answer g)) told.1)
+    let d = c.before.before.before.before in
+    let stop = was_refused (stream_told (used d) (rest d)) (decoded d) (sym (answer d) ∙ ap stream_read_answer c.before.in_default.is) in (
+      ap refused (c.refusal.ensures ∙ ap (λ (g : StreamRead). refusal_of (stream_read_answer g)) c.before.in_default.is)
           ∙ sym (answered_no (slab_list_of (bytes d)) (decoded d) stop),
       list d,
     )
 
 overflow_add-result : tie.Need-overflow_add-result
 overflow_add-result c =
-    let d = c.before.before.before.before.before in
+    let d = c.before.before.before in
     omega (
       arith,
-      (read d c.before.got-1.given.0.0 c.before.got-1.given.0.1.0
-          (ap stream_read_answer c.before.got-1.given.1)).within,
+      (read d c.in-Read.taken c.in-Read.padded
+          (ap stream_read_answer c.in-Read.is)).within,
     )
 
 shape_of-out : tie.Need-shape_of-out
@@ -140,10 +139,10 @@ shape_of-out c = search rules
 
 returns : tie.Need-returns
 returns c =
-    let d = c.before.before.before.before.before in
-    let len = c.before.got-1.given.0.0 in
-    let padded = c.before.got-1.given.0.1.0 in
-    let r = read d len padded (ap stream_read_answer c.before.got-1.given.1) in (
+    let d = c.before.before.before in
+    let len = c.in-Read.taken in
+    let padded = c.in-Read.padded in
+    let r = read d len padded (ap stream_read_answer c.in-Read.is) in (
       ap (λ (u : ℕ). accepted (record { used = u; len = 2 + len; padded = padded })) (sym r.counted)
           ∙ ap (λ (t : ℕ). accepted (record { used = length r.scanned.numbers; len = 2 + t; padded = padded })) (sym r.taken)
           ∙ ap (λ (m : ℕ). accepted (record { used = length r.scanned.numbers; len = 2 + r.scanned.taken; padded = m })) r.counts

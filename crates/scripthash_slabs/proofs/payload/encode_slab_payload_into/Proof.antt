@@ -34,7 +34,7 @@ module _ (c : tie.After-encode_fk_delta_stream_into-got) where
   room = length bytes - 2
 
   abbrev out : List ℕ
-  out = c.encode_fk_delta_stream_into-got.new.0
+  out = c.encode_fk_delta_stream_into-got.new.out
 
   inside : 2 ≤ length bytes
   inside = omega arith
@@ -48,12 +48,12 @@ module _ (c : tie.After-encode_fk_delta_stream_into-got) where
 -- and wrote the stream there
 module _ (c : tie.In-Bytes) where
   abbrev enc : tie.After-encode_fk_delta_stream_into-got
-  enc = c.before.before.before.before.before
+  enc = c.before.before.before
 
-  is : encode_stream (room enc) (fks enc) ≡ accepted c.before.got-1.given.0.0
-  is = sym (answer enc) ∙ ap bytes_answer c.before.got-1.given.1
+  is : encode_stream (room enc) (fks enc) ≡ accepted c.in-Bytes.len
+  is = sym (answer enc) ∙ ap bytes_answer c.in-Bytes.is
 
-  within : c.before.got-1.given.0.0 ≤ room enc
+  within : c.in-Bytes.len ≤ room enc
   within = let h = encode_accepted (room enc) (fks enc) is in omega arith
 
 returns-then-fks-gt-MAX_OFFERED : tie.Need-returns-then-fks-gt-MAX_OFFERED
@@ -91,12 +91,11 @@ shape_of-out-in_default c = search rules
 
 returns-in_default : tie.Need-returns-in_default
 returns-in_default c =
-    let d = c.before.before.before.before in
-    let told = c.enum_told-1.given in
-    let stop : encode_stream (room d) (fks d) ≡ refused told.0.0 = sym (answer d) ∙ ap bytes_answer told.1 in
+    let d = c.before.before.before in
+    let stop : encode_stream (room d) (fks d) ≡ refused c.in_default.field-0 = sym (answer d) ∙ ap bytes_answer c.in_default.is in
     let refusal = slab d ∙ answered_no (λ len. 2 + len) (encode_stream (room d) (fks d)) stop in
     let same = lent_no (bytes d) 2 (inside d) (fks d) (out d) d.encode_fk_delta_stream_into-got.ensures.1 stop in (
-      ap bytes_answer told.1 ∙ sym refusal,
+      ap bytes_answer c.in_default.is ∙ sym refusal,
       same ∙ sym (after_slab_no (bytes d) (fks d) (encode_slab (length (bytes d)) (fks d)) refusal),
     )
 

@@ -17,18 +17,18 @@ use Rattle.scripthash_stream.proofs.encode.encode_fk_delta_stream_into.Tie as ti
 -- a list that was judged well
 module _ (c : tie.In-Bytes) where
   abbrev args : tie.Start
-  args = c.before.before.before.before.before.before
+  args = c.before.before.before.before
 
   abbrev fks : List ℕ
   fks = args.args.fks.now
 
-  is : judged 0 fks (accepted (stream_len fks)) ≡ accepted c.before.got-1.given.0.0
-  is = sym c.before.before.before.measure_fks-got.ensures ∙ ap bytes_answer c.before.got-1.given.1
+  is : judged 0 fks (accepted (stream_len fks)) ≡ accepted c.in-Bytes.len
+  is = sym c.before.measure_fks-got.ensures ∙ ap bytes_answer c.in-Bytes.is
 
   rises : Rising (2 ^ 63) 0 fks
   rises = (judged_accepted 0 fks (accepted (stream_len fks)) is).0
 
-  long : stream_len fks ≡ c.before.got-1.given.0.0
+  long : stream_len fks ≡ c.in-Bytes.len
   long = accepted_inj (judged_accepted 0 fks (accepted (stream_len fks)) is).1
 
 measure_fks-got-requires : tie.Need-measure_fks-got-requires
@@ -42,13 +42,12 @@ enum_told-1 c = search rules
 
 returns-in_default : tie.Need-returns-in_default
 returns-in_default c =
-    let told = c.enum_told-1.given in
-    let a = c.before.before.before.before.before.args in
+    let a = c.before.before.before.before.args in
     let out = a.out.now in
     let ns = a.fks.now in
-    let answer : encode_stream (length out) ns ≡ refused told.0.0 =
-    encode_refused (length out) ns (sym c.before.before.measure_fks-got.ensures ∙ ap bytes_answer told.1) in
-    (ap bytes_answer told.1 ∙ sym answer, sym (after_encode_no out ns (encode_stream (length out) ns) answer))
+    let answer : encode_stream (length out) ns ≡ refused c.in_default.field-0 =
+    encode_refused (length out) ns (sym c.before.measure_fks-got.ensures ∙ ap bytes_answer c.in_default.is) in
+    (ap bytes_answer c.in_default.is ∙ sym answer, sym (after_encode_no out ns (encode_stream (length out) ns) answer))
 
 returns-then-out-len : tie.Need-returns-then-out-len
 returns-then-out-len c =

@@ -28,7 +28,7 @@ decreases_loop fks prev₀ len₀ k₀ prev len k = length fks - k
 -- a number that was accepted, and what is known of it
 module _ (c : tie.In-Bytes invariant_loop decreases_loop) where
   abbrev loc : tie.At-loop-k invariant_loop decreases_loop
-  loc = c.before.before.before.before.before.before
+  loc = c.before.before.before.before
 
   abbrev numbers : List ℕ
   numbers = loc.before.before.args.fks.now
@@ -37,10 +37,10 @@ module _ (c : tie.In-Bytes invariant_loop decreases_loop) where
   fk = get_or numbers loc.loop-k.k 0
 
   abbrev more : ℕ
-  more = c.before.got-1.given.0.0
+  more = c.in-Bytes.more
 
   is : judged loc.loop-k.prev (fk ∷ []) (accepted (uleb_len (fk - loc.loop-k.prev))) ≡ accepted more
-  is = sym c.before.before.before.offered_number-got.ensures ∙ ap bytes_answer c.before.got-1.given.1
+  is = sym c.before.offered_number-got.ensures ∙ ap bytes_answer c.in-Bytes.is
 
   rises : (loc.loop-k.prev < fk) × (fk < 2 ^ 63)
   unfolding Rising
@@ -72,11 +72,10 @@ enum_told-1 c = search rules
 
 returns-in_default : tie.Need-returns-in_default invariant_loop decreases_loop
 returns-in_default c =
-    let l = c.before.before.before.before.before in
+    let l = c.before.before.before.before in
     let fks = l.before.before.args.fks.now in
-    let told = c.enum_told-1.given in
-    let stop = sym c.before.before.offered_number-got.ensures ∙ ap bytes_answer told.1 in
-    ap bytes_answer told.1 ∙ sym (measured_refused l.loop-k.len l.loop-k.prev (get_or fks l.loop-k.k 0) (drop (l.loop-k.k + 1) fks)
+    let stop = sym c.before.offered_number-got.ensures ∙ ap bytes_answer c.in_default.is in
+    ap bytes_answer c.in_default.is ∙ sym (measured_refused l.loop-k.len l.loop-k.prev (get_or fks l.loop-k.k 0) (drop (l.loop-k.k + 1) fks)
     stop)
     ∙ (rw (front fks l.loop-k.k (omega arith)) at l.loop-k.invariant.3)
 
@@ -96,7 +95,7 @@ loop-k-preserved c =
       search rules,
       (rises c).1,
       omega (arith, short c),
-      sym (measured_more l.len l.prev (fk c) (drop (l.k + 1) (numbers c)) (is c)) ∙ (rw front-here at l.inv.3),
+      sym (measured_more l.len l.prev (fk c) (drop (l.k + 1) (numbers c)) (is c)) ∙ (rw front-here at l.invariant.3),
     )
 
 returns : tie.Need-returns invariant_loop decreases_loop

@@ -92,12 +92,12 @@ loop-k-preserved c =
     let fk = get_or turn_in.before.before.before.before.args.fks.now l.k 0 in
     let rest = drop (l.k + 1) turn_in.before.before.before.before.args.fks.now in
     let long = length_overwrite l.out l.off (shortest (fk - l.prev)) (omega (arith, t.room, length_shortest (fk - l.prev))) in
-    let same : length f.new.0 ≡ length l.out = ap length f.ensures.1 ∙ long in (
+    let same : length f.new.out ≡ length l.out = ap length f.ensures.1 ∙ long in (
       search rules,
       t.after,
       same ∙ l.invariant.2,
       omega (arith, t.fits, f.ensures.0),
-      ap (λ (o : ℕ). overwrite f.new.0 (l.off + o) (stream_from fk rest)) f.ensures.0
+      ap (λ (o : ℕ). overwrite f.new.out (l.off + o) (stream_from fk rest)) f.ensures.0
           ∙ ap (λ (d : List ℕ). overwrite d (l.off + uleb_len (fk - l.prev)) (stream_from fk rest)) f.ensures.1 ∙ sym t.makes
           ∙ l.invariant.4,
     )

@@ -26,14 +26,14 @@ module _ (at : tie.Start) where
   lent = take room (drop at.args.off bytes)
 
   fits : uleb_len at.args.d ≤ length lent
-  fits = let h = at.pre in simp (length-take, length-drop) (omega arith)
+  fits = let h = at.requires in simp (length-take, length-drop) (omega arith)
 
   -- the whole with the form in that part
   written : {part : List ℕ} → part ≡ overwrite lent 0 (shortest at.args.d)
       → take at.args.off bytes ++ (part ++ drop room (drop at.args.off bytes))
       ≡ overwrite bytes at.args.off (shortest at.args.d)
   written e =
-      let h = at.pre in
+      let h = at.requires in
       let long = length_shortest at.args.d in
       ap (λ (m : List ℕ). take at.args.off bytes ++ (m ++ drop room (drop at.args.off bytes))) e
       ∙ overwrite_part bytes at.args.off room 0 (shortest at.args.d) (omega arith) (omega arith)

@@ -16,12 +16,12 @@ use Rattle.scripthash_stream.proofs.stream.decode_in_two_passes.Tie as tie
 -- a stream that scanned, and the scan
 module _ (c : tie.In-Scanned) where
   abbrev args : tie.Start
-  args = c.before.before.before.before.before.before
+  args = c.before.before.before.before
 
   found : (s : Scan) × (scan args.args.n args.args.buf.now ≡ accepted s)
-      × (end_from 0 s ≡ record { taken = c.before.got-1.given.0.0; last = c.before.got-1.given.0.1.0 })
-  found = was_accepted (end_from 0) (scan args.args.n args.args.buf.now) (sym c.before.before.before.scan_by_number-got.ensures
-      ∙ ap scan_answer c.before.got-1.given.1)
+      × (end_from 0 s ≡ record { taken = c.in-Scanned.taken; last = c.in-Scanned.last })
+  found = was_accepted (end_from 0) (scan args.args.n args.args.buf.now) (sym c.before.scan_by_number-got.ensures
+      ∙ ap scan_answer c.in-Scanned.is)
 
 scan_by_number-got-requires : tie.Need-scan_by_number-got-requires
 scan_by_number-got-requires c κs = search rules
@@ -37,12 +37,11 @@ refusal-requires c κs = search rules
 
 returns-in_default : tie.Need-returns-in_default
 returns-in_default c =
-    let told = c.before.enum_told-1.given in
-    let a = c.before.before.before.before.before.before.args in
-    let stop = was_refused (end_from 0) (scan a.n a.buf.now) (sym c.before.before.before.scan_by_number-got.ensures
-    ∙ ap scan_answer told.1) in
+    let a = c.before.before.before.before.before.args in
+    let stop = was_refused (end_from 0) (scan a.n a.buf.now) (sym c.before.before.scan_by_number-got.ensures
+    ∙ ap scan_answer c.before.in_default.is) in
     let answer = decode_refused (length a.out.now) a.n a.buf.now stop in (
-      ap refused (c.refusal.ensures ∙ ap (λ (g : ScanStream). refusal_of (scan_answer g)) told.1)
+      ap refused (c.refusal.ensures ∙ ap (λ (g : ScanStream). refusal_of (scan_answer g)) c.before.in_default.is)
           ∙ sym (answered_no (λ s. s.taken) _ answer),
       sym (after_refused a.out.now _ answer),
     )

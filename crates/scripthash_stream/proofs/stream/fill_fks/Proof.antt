@@ -69,16 +69,16 @@ decreases_loop buf n out₀ prev₀ off₀ k₀ out prev off k = n - k
 -- a number that was read, and what is known of it
 module _ (c : tie.In-Number invariant_loop decreases_loop) where
   abbrev loc : tie.At-loop-k invariant_loop decreases_loop
-  loc = c.before.before.before.before.before
+  loc = c.before.before.before
 
   abbrev bytes : List ℕ
   bytes = loc.before.before.before.args.buf.now
 
   abbrev got : Reading
-  got = record { value = c.before.got-1.given.0.0; len = c.before.got-1.given.0.1.0 }
+  got = record { value = c.in-Number.fk; len = c.in-Number.len }
 
   is : next_number loc.loop-k.prev (drop loc.loop-k.off bytes) ≡ accepted got
-  is = sym c.before.before.before.next_fk-got.ensures ∙ ap next_answer c.before.got-1.given.1
+  is = sym c.before.next_fk-got.ensures ∙ ap next_answer c.in-Number.is
 
   number : Next loc.loop-k.prev (drop loc.loop-k.off bytes) got
   number = next_accepted loc.loop-k.prev (drop loc.loop-k.off bytes) got is
@@ -105,9 +105,9 @@ shape_of-out-in_default c = search rules
 
 returns-in_default : tie.Need-returns-in_default invariant_loop decreases_loop
 returns-in_default c s e =
-    let l = c.before.before.before.before in
+    let l = c.before.before.before in
     let a = l.before.before.before.args in
-    let stop = sym c.before.before.next_fk-got.ensures ∙ ap next_answer c.enum_told-1.given.1 in
+    let stop = sym c.before.next_fk-got.ensures ∙ ap next_answer c.in_default.is in
     absurd (left_read a.buf.now a.n a.out.now l.loop-k.out l.loop-k.prev l.loop-k.off l.loop-k.k s (omega arith)
     (l.loop-k.invariant.5 s e) stop)
 
@@ -131,11 +131,11 @@ loop-k-preserved c =
     let l = (loc c).loop-k in
     let a = (loc c).before.before.before.args in (
       search rules,
-      l.inv.1,
-      simp length-set l.inv.2,
+      l.invariant.1,
+      simp length-set l.invariant.2,
       inside c,
       (number c).below,
-      λ s e. left_next (bytes c) a.n a.out.now l.out l.prev l.off l.k s (omega arith) (l.inv.5 s e) (got c) (is c)
+      λ s e. left_next (bytes c) a.n a.out.now l.out l.prev l.off l.k s (omega arith) (l.invariant.5 s e) (got c) (is c)
           (omega arith),
     )
 

@@ -95,23 +95,21 @@ refusal-requires c κs = search rules
 
 returns-in_default : tie.Need-returns-in_default
 returns-in_default c =
-    let told = c.before.enum_told-1.given in
-    let a = c.before.before.before.before.before.before.before.args in
-    let read = rw (part_to_end a.buf.now a.off) at c.before.before.before.read_uleb128-got.ensures in
-    ap refused (c.refusal.ensures ∙ ap (λ (g : ReadUleb128). refusal_of (read_uleb_answer g)) told.1)
-    ∙ sym (next_refused a.prev (drop a.off a.buf.now) (was_refused number_read _ (sym read ∙ ap read_uleb_answer told.1)))
+    let a = c.before.before.before.before.before.before.args in
+    let read = rw (part_to_end a.buf.now a.off) at c.before.before.read_uleb128-got.ensures in
+    ap refused (c.refusal.ensures ∙ ap (λ (g : ReadUleb128). refusal_of (read_uleb_answer g)) c.before.in_default.is)
+    ∙ sym (next_refused a.prev (drop a.off a.buf.now) (was_refused number_read _ (sym read ∙ ap read_uleb_answer c.before.in_default.is)))
 
 stored_number-requires-2 : tie.Need-stored_number-requires-2
 stored_number-requires-2 c κs = search rules
 
 returns : tie.Need-returns
 returns c =
-    let told = c.before.before.got-1.given in
-    let a = c.before.before.before.before.before.before.before.before.args in
-    let read = rw (part_to_end a.buf.now a.off) at c.before.before.before.before.read_uleb128-got.ensures in
+    let a = c.before.before.before.before.before.before.args in
+    let read = rw (part_to_end a.buf.now a.off) at c.before.before.read_uleb128-got.ensures in
     c.stored_number-2.ensures
-    ∙ sym (next_is a.prev (drop a.off a.buf.now) (record { value = told.0.0; len = told.0.1.0 })
-    (number_back (drop a.off a.buf.now) (sym read ∙ ap read_uleb_answer told.1)))
+    ∙ sym (next_is a.prev (drop a.off a.buf.now) (record { value = c.before.in-Value.value; len = c.before.in-Value.len })
+    (number_back (drop a.off a.buf.now) (sym read ∙ ap read_uleb_answer c.before.in-Value.is)))
 
 pub next_fk_spec : {M : Type 1} → statement M
 next_fk_spec =

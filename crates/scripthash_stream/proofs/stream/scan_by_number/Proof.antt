@@ -26,16 +26,16 @@ decreases_loop buf n prev₀ off₀ k₀ prev off k = n - k
 -- a number that was read, and what is known of it
 module _ (c : tie.In-Number invariant_loop decreases_loop) where
   abbrev loc : tie.At-loop-k invariant_loop decreases_loop
-  loc = c.before.before.before.before.before
+  loc = c.before.before.before
 
   abbrev bytes : List ℕ
   bytes = loc.before.before.args.buf.now
 
   abbrev got : Reading
-  got = record { value = c.before.got-1.given.0.0; len = c.before.got-1.given.0.1.0 }
+  got = record { value = c.in-Number.fk; len = c.in-Number.len }
 
   is : next_number loc.loop-k.prev (drop loc.loop-k.off bytes) ≡ accepted got
-  is = sym c.before.before.before.next_fk-got.ensures ∙ ap next_answer c.before.got-1.given.1
+  is = sym c.before.next_fk-got.ensures ∙ ap next_answer c.in-Number.is
 
   number : Next loc.loop-k.prev (drop loc.loop-k.off bytes) got
   number = next_accepted loc.loop-k.prev (drop loc.loop-k.off bytes) got is
@@ -60,11 +60,10 @@ refusal-requires c κs = search rules
 
 returns-in_default : tie.Need-returns-in_default invariant_loop decreases_loop
 returns-in_default c =
-    let l = c.before.before.before.before.before.loop-k in
-    let a = c.before.before.before.before.before.before.before.args in
-    let told = c.before.enum_told-1.given in
-    let stop = sym c.before.before.before.next_fk-got.ensures ∙ ap next_answer told.1 in
-    ap refused (c.refusal.ensures ∙ ap (λ (g : NextFk). refusal_of (next_answer g)) told.1)
+    let l = c.before.before.before.before.loop-k in
+    let a = c.before.before.before.before.before.before.args in
+    let stop = sym c.before.before.next_fk-got.ensures ∙ ap next_answer c.before.in_default.is in
+    ap refused (c.refusal.ensures ∙ ap (λ (g : NextFk). refusal_of (next_answer g)) c.before.in_default.is)
     ∙ sym (ends_refused a.buf.now a.n l.off l.prev l.k (omega arith) stop) ∙ l.invariant.3
 
 overflow_add-off : tie.Need-overflow_add-off invariant_loop decreases_loop
@@ -83,7 +82,7 @@ loop-k-preserved c =
       search rules,
       inside c,
       (number c).below,
-      ends_next (bytes c) n l.off l.prev l.k (got c) (omega arith) (is c) ∙ l.inv.3,
+      ends_next (bytes c) n l.off l.prev l.k (got c) (omega arith) (is c) ∙ l.invariant.3,
     )
 
 returns : tie.Need-returns invariant_loop decreases_loop

@@ -86,7 +86,7 @@ returns c =
     let some : 0 < first.result.len = omega arith in (
       rest.0 ∙ length-set a.out.now 0 first.result.fk,
       λ e s h.
-          fill_list a.n first.result.fk first.result.len a.buf.now a.out.now f.fill_rest.new.1.1.1.1.0 s
+          fill_list a.n first.result.fk first.result.len a.buf.now a.out.now f.fill_rest.new.out s
           (λ i k. omega (arith, g.before.before.before.shared_slice_known-1.given i)) (omega arith) (omega arith) h
           (first.ensures.next some)
           (first.ensures.ends some) (rest.1 e),

@@ -39,7 +39,7 @@ shape_of-out c = search rules
 returns : tie.Need-returns
 returns c =
     let u = c.before.before in
-    let v = u.before.before.before.before.before.before in
+    let v = u.before.before.before.before.before in
     let some = v.before.before.fewer-m in
     let g = v.before.before.before.before.before in
     let st = g.before.before.before.before.before.before in
@@ -47,7 +47,7 @@ returns c =
     let got = g.find_starts-got in
     let vals = v.take_values.ensures in
     let sums = u.sum_up-last.ensures in
-    let none : v.take_values.result ≡ 0 = omega (arith, u.before.before.before.if-take_values-ne0.false) in (
+    let none : v.take_values.result ≡ 0 = omega (arith, u.before.before.if-take_values-ne0.false) in (
       vals.0 ∙ got.ensures.3 ∙ st.requires.2,
       sums.3,
       some.ensures.1,
@@ -56,8 +56,8 @@ returns c =
         got.ensures.1,
         sums.0,
         filling_part a.buf.now a.from got.result.at got.result.count some.result a.left a.prev
-            u.sum_up-last.result a.at got.new.1.1.1.0 v.take_values.new.0 a.out.now
-            u.sum_up-last.new.1.1.1.0 got.ensures.4 (omega (arith, got.ensures.2, got.ensures.3)) vals.0
+            u.sum_up-last.result a.at got.new.words v.take_values.new.words a.out.now
+            u.sum_up-last.new.out got.ensures.4 (omega (arith, got.ensures.2, got.ensures.3)) vals.0
             some.ensures.0 some.ensures.1 some.ensures.2 st.requires.3 ((vals.1 none).0, (vals.1 none).1) sums.1 sums.2,
       ),
     )

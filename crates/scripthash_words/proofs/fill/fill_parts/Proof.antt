@@ -77,7 +77,7 @@ loop-done-preserved c =
       omega (arith, more.2, got.ensures.2, l.invariant.4, l.invariant.6),
       rw (left, place) at (filling_more a.buf.now a.from a.prev a.n a.out.now a.at l.i l.sum (a.n - l.done)
           l.out
-          (a.at + l.done) got.result.at got.result.last (a.n - l.done - got.result.count) got.new.1.1.1.1.1.0
+          (a.at + l.done) got.result.at got.result.last (a.n - l.done - got.result.count) got.new.out
           (a.at + l.done + got.result.count) l.invariant.7 more.3),
     )
 

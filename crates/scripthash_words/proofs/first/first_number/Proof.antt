@@ -28,10 +28,9 @@ returns-then-value-ge-BIT_63 c = first_none _
 
 returns : tie.Need-returns
 returns c =
-    let told = c.before.before.before.got-1.given in
-    let a = c.before.before.before.before.before.before.before.args in
-    first_read told.0.0 told.0.1.0 a.buf.now
-    (number_back a.buf.now (sym c.before.before.before.before.before.read_uleb128-got.ensures ∙ ap read_uleb_answer told.1))
+    let a = c.before.before.before.before.before.args in
+    first_read c.before.before.in-Value.value c.before.before.in-Value.len a.buf.now
+    (number_back a.buf.now (sym c.before.before.before.read_uleb128-got.ensures ∙ ap read_uleb_answer c.before.before.in-Value.is))
     (omega arith) (omega arith)
 
 pub first_number_spec : {M : Type 1} → statement M

@@ -47,7 +47,7 @@ shape_of-out c = search rules
 returns : tie.Need-returns
 returns c =
     let u = c.before.before in
-    let v = u.before.before.before.before.before.before in
+    let v = u.before.before.before.before.before in
     let p = v.before.before.before in
     let f = p.before.before.before.before.before.before in
     let k = f.before.before.before.before in
@@ -55,11 +55,11 @@ returns c =
     let got = f.find_starts-got in
     let values = v.take_values in
     rest_read_lem a.buf.now a.from a.prev a.n got.result.at got.result.count p.place_before-end.result u.sum_up.result
-    got.new.1.1.1.0 values.new.0 a.out.now u.sum_up.new.1.1.1.0 (λ i h. omega
+    got.new.words values.new.words a.out.now u.sum_up.new.out (λ i h. omega
     (arith, k.shared_slice_known-1.given i))
     k.before.requires.1 k.before.requires.2 got.ensures.4 (omega (arith, got.ensures.2, got.ensures.3)) (omega
     (arith, p.before.before.if-got-n.false)) (omega (arith, v.before.before.if-end-eq0.false))
-    p.place_before-end.ensures got.ensures.1 (values.ensures.1 (omega (arith, u.before.before.before.if-take_values-ne0.false)))
+    p.place_before-end.ensures got.ensures.1 (values.ensures.1 (omega (arith, u.before.before.if-take_values-ne0.false)))
     k.before.requires.6 u.sum_up.ensures.0
     u.sum_up.ensures.2 u.sum_up.ensures.1
 

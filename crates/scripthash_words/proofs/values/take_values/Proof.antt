@@ -56,7 +56,7 @@ loop-k-preserved c =
     let l = c.before.before.before.before.before.loop-k in
     let a = c.before.before.before.before.before.before.before.args in
     let ends = c.before.unended in
-    let value = c.before.before.value_of_lem.ensures in
+    let value = c.before.before.value_of-v.ensures in
     let some = c.zero_value in (
       search rules,
       l.invariant.1,
