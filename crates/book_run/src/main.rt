@@ -1,11 +1,15 @@
 // Runs whole lists of calls by `run_calls`, whose answers are proved to be the plain book's. Each line of standard input is a list: the
 // bytes of the body, the heads, the room for answers, and the words of the calls (`book_words` spells them). Writes the words of the
 // answers; a line that isn't numbers is a title, and is written. All keys are desk 0's.
+#![tactic(auto)]
+
 ghost use Rattle.std.specs.Prelude.{◌≡◌, length};
 
 use book_calls::RunCalls;
 use decimal::Numbers;
-use libc::STDIN_FILENO;
+
+// The descriptor of standard input.
+const STDIN: i32 = 0;
 
 // The most bytes of a body, heads, and words of calls and answers.
 const BODY_BYTES: usize = 16384;
@@ -122,7 +126,7 @@ fn run_line(line: &[u8], list: &mut [u64]) {
 fn run_all(text: &[u8], list: &mut [u64]) {
     let mut at: usize = 0;
     while at < text.len() {
-        let end = bytes::scan::find(text, at, text.len(), b'\n');
+        let end = text::find(text, at, text.len(), b'\n');
         run_line(&text[at..end], list);
         if text.len() <= end {
             return;
@@ -134,6 +138,6 @@ fn run_all(text: &[u8], list: &mut [u64]) {
 fn main() {
     let mut text = io::large_buffer();
     let mut list = words();
-    let len = io::read_full(STDIN_FILENO, &mut text);
+    let len = io::read_full(STDIN, &mut text);
     run_all(&text[0..len], &mut list);
 }

@@ -5,7 +5,7 @@ use crate::reports;
 use decimal::Numbers;
 
 // What the first word of a line asks for.
-#[derive(Drop)]
+#[derive(Clone, Copy)]
 pub enum Command {
     Body,
     Keys,
@@ -30,7 +30,7 @@ pub enum Command {
 
 // What the line of a number asks for, with so many numbers in the lent list: the first of them, and the second. Where a read has no second
 // one, it is the room of the whole list.
-#[derive(Drop)]
+#[derive(Clone, Copy)]
 pub struct Asked {
     pub number: u64,
     pub what: Command,

@@ -1,4 +1,6 @@
 // What the account book's shell reads and says: the lines of a script, what each asks for, and answers in words. Nothing here has a book.
+#![tactic(auto)]
+
 mod asked;
 mod helped;
 mod judged;

@@ -1,11 +1,11 @@
-// Reading a script line by line from standard input, into lent text.
+// Reading a script line by line from an input, into lent text.
 ghost use Rattle.std.specs.Prelude.{◌+◌, ◌≤◌, length};
 
 use crate::reports;
-use libc::STDIN_FILENO;
+use std::io::Read;
 
 // Where reading stands: the line that came last, the text behind it that is not used yet, and how many lines there were.
-#[derive(Drop)]
+#[derive(Clone, Copy)]
 pub struct Reading {
     start: usize,
     line_end: usize,
@@ -112,22 +112,24 @@ fn move_down(text: &mut [u8], from: usize) {
     }
 }
 
-// Reads text behind what is held, and tells how many bytes came.
-fn read_behind(text: &mut [u8], held: usize) -> usize
+// Reads text behind what is held, by one call that gives what is there, and tells how many bytes came: none at the end, or where reading
+// fails.
+fn read_behind<R: Read>(input: &mut R, text: &mut [u8], held: usize) -> usize
     requires { held ≤ length text.old }
     ensures { held + result ≤ length text.old }
 {
-    let part = &mut text[held..];
-    let got = libc::read(STDIN_FILENO, part);
-    io::count(got, part)
+    match input.read(&mut text[held..]) {
+        Ok(count) => count,
+        Err(_) => 0,
+    }
 }
 
 // No line ends in the text: more is read behind what it holds. Where there is no more, that is the last line.
-fn read_more(text: &mut [u8], held: usize, at: Reading) -> Reading {
+fn read_more<R: Read>(input: &mut R, text: &mut [u8], held: usize, at: Reading) -> Reading {
     if text.len() <= held {
         return too_long(at);
     }
-    let count = read_behind(text, held);
+    let count = read_behind(input, text, held);
     if count == 0 {
         let last = at.line(0, held, held);
         return last.at_end();
@@ -136,7 +138,7 @@ fn read_more(text: &mut [u8], held: usize, at: Reading) -> Reading {
 }
 
 // One turn: a line that ends in the text comes, or more text is read.
-pub fn turn(text: &mut [u8], at: Reading) -> Reading {
+pub fn turn<R: Read>(input: &mut R, text: &mut [u8], at: Reading) -> Reading {
     let start = at.next;
     let end = at.end;
     if text.len() < end {
@@ -145,10 +147,10 @@ pub fn turn(text: &mut [u8], at: Reading) -> Reading {
     if end < start {
         return at.nowhere();
     }
-    let stop = bytes::scan::find(text, start, end, b'\n');
+    let stop = text::find(text, start, end, b'\n');
     if stop < end {
         return at.line(start, stop, stop + 1);
     }
     move_down(text, start);
-    read_more(text, end - start, at)
+    read_more(input, text, end - start, at)
 }

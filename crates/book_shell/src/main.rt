@@ -4,11 +4,14 @@
 // calls; `places` and `space` show what it holds, and `check` tells whether it is a good start; `help` lists these lines, and `#` begins a
 // comment. A line that can't be read, or comes before there is a book, is reported with its number, and nothing is done for it. The last
 // line of all tells how many lines were refused, also such of which a number was, and how many not understood.
+#![tactic(auto)]
+
 mod calls;
 mod memory;
 
 use book_rules::SlabFit;
 use book_script::{Asked, Command, Reading};
+use std::io::Read;
 
 // The book of the script: how many bytes and keys were asked for, and below which key lines gave keys to desks. A book has no keys until
 // they are asked for. And how many lines were refused and not understood, from the first line on. Body, heads, state and what was told of
@@ -400,9 +403,10 @@ fn finish(at: Reading, book: Book) {
     book_script::ended(book.refused, unread);
 }
 
-// Does a line after the other until no more text comes. A loop that is proved has to end, so its turns are counted, from a number that no
-// run uses up.
-fn run(
+// Does a line of an input after the other until no more text comes. A loop that is proved has to end, so its turns are counted, from a
+// number that no run uses up.
+fn run<R: Read>(
+    input: &mut R,
     text: &mut [u8],
     list: &mut [u64],
     body: &mut [u8],
@@ -418,7 +422,7 @@ fn run(
     let mut book = none();
     let mut turns = u64::MAX;
     while 0 < turns {
-        at = book_script::turn(text, at);
+        at = book_script::turn(input, text, at);
         book = step(
             at, text, list, body, heads, mark, free, counts, desks, reserve, ceiling, book,
         );
@@ -430,7 +434,8 @@ fn run(
     }
 }
 
-fn main() {
+fn main(rt: HostRuntime) {
+    let mut input = rt.stdin();
     let mut text = memory::line_bytes();
     let mut list = memory::numbers();
     let mut body = memory::body_bytes();
@@ -442,6 +447,7 @@ fn main() {
     let mut reserve = [0u64; 16];
     let mut ceiling = [u64::MAX; 16];
     run(
+        &mut input,
         &mut text,
         &mut list,
         &mut body,

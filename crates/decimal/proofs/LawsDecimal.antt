@@ -7,12 +7,11 @@ use native.Mathlib.Nat.{pow-suc}
 use native.Mathlib.Numerals.{add-one}
 use native.Mathlib.Omega.{arith}
 use borrow.Author.Tests.{lt-ltb, le-ltb, le-leb, ltb-true}
-use lib.Dec.{ltb, leb}
+use lib.Dec.{ltb}
 use lib.ListN.{length, drop, get_or}
 use lib.Seq.{drop-cons}
 use Rattle.io.specs.Digits.{last_digits, hex_digit_ascii, IsDigitCount}
 use Rattle.decimal.specs.Decimal.{is_digit, all_digits, is_number, value_from, value_of, in64_bits, read_decimal}
-use Rattle.decimal.specs.declared.ReadDecimal.{ReadDecimal}
 use Rattle.decimal.specs.declared.ReadDecimal.TheVariants.{Number, NotANumber, TooLarge}
 
 -- ---- digits one by one

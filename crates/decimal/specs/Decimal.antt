@@ -1,5 +1,5 @@
 -- Numbers in decimal, as ASCII text, and how a word is read as one.
-use Rattle.std.specs.Prelude.{ℕ, ◌+◌, ◌-◌, ◌*◌, ◌^◌, Bool, true, false, cond, not, ◌&&◌, ◌||◌, List, [], ◌∷◌, leb, ltb}
+use Rattle.std.specs.Prelude.{ℕ, ◌+◌, ◌-◌, ◌*◌, ◌^◌, Bool, true, false, cond, ◌&&◌, List, [], ◌∷◌, leb, ltb}
 use Rattle.decimal.specs.declared.ReadDecimal.{ReadDecimal}
 use Rattle.decimal.specs.declared.ReadDecimal.TheVariants.{Number, NotANumber, TooLarge}
 

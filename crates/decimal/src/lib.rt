@@ -1,5 +1,7 @@
 // Numbers in decimal, read from text. They are printed by the toolchain's `io`, whose contract says which digits; a number that was printed
 // so is read back (`proofs/LawsDecimal`).
+#![tactic(auto)]
+
 mod words;
 
 ghost use Rattle.std.specs.Prelude.{◌≡◌, ◌-◌};

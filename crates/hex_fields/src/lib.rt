@@ -1,4 +1,6 @@
 // The text of answers that programs replay: lines of fields in hexadecimal, divided by bars, and what their buffers and lists have to hold.
+#![tactic(auto)]
+
 ghost use Rattle.std.specs.Prelude.{◌+◌, ◌<◌, ◌≤◌, length};
 
 // The bytes of s from one index to another; none where that leaves s.

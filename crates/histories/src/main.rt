@@ -1,12 +1,19 @@
 // Replays histories of the account book, which data/ holds with the answers of a second book: makes each call through the C boundary, and
 // compares its whole answer, and after it all of body, state and heads. Writes a line for each file, and one for each line that differs.
+#![tactic(auto)]
+
 mod calls;
 mod changes;
 mod core_calls;
 mod memory;
 
 use hex_fields::{field, hex, part};
-use libc::STDOUT_FILENO;
+use std::fs;
+use std::io::ErrorKind;
+use std::rt::Files;
+
+// The descriptor of standard output.
+const STDOUT: i32 = 1;
 
 // The kinds of lines that make no call: somebody else wrote the book, and a history begins.
 const WRITTEN: u64 = 0x35;
@@ -75,21 +82,21 @@ impl Count {
 
 // Writes that a line differs.
 fn show_line(number: u64) {
-    io::write_all(STDOUT_FILENO, b"line ");
-    io::print_decimal(STDOUT_FILENO, number);
-    io::write_all(STDOUT_FILENO, b" differs\n");
+    io::write_all(STDOUT, b"line ");
+    io::print_decimal(STDOUT, number);
+    io::write_all(STDOUT, b" differs\n");
 }
 
 // Writes the line of a file: its name, and what was counted.
 fn show(name: &[u8], count: Count) {
-    io::write_all(STDOUT_FILENO, name);
-    io::write_all(STDOUT_FILENO, b": ");
-    io::print_decimal(STDOUT_FILENO, count.histories);
-    io::write_all(STDOUT_FILENO, b" histories, ");
-    io::print_decimal(STDOUT_FILENO, count.lines);
-    io::write_all(STDOUT_FILENO, b" lines replayed, ");
-    io::print_decimal(STDOUT_FILENO, count.differ);
-    io::write_all(STDOUT_FILENO, b" differ\n");
+    io::write_all(STDOUT, name);
+    io::write_all(STDOUT, b": ");
+    io::print_decimal(STDOUT, count.histories);
+    io::write_all(STDOUT, b" histories, ");
+    io::print_decimal(STDOUT, count.lines);
+    io::write_all(STDOUT, b" lines replayed, ");
+    io::print_decimal(STDOUT, count.differ);
+    io::write_all(STDOUT, b" differ\n");
 }
 
 // Counts a line that was replayed, and writes where it differs.
@@ -130,31 +137,33 @@ fn replay_all(text: &[u8]) {
     }
 }
 
-// Reads a file into lent room and replays it; false where there is none.
-fn replay_file(name: &[u8; 2], text: &mut [u8]) -> bool {
-    let file = os::open_read(name);
-    if file < 0 {
-        return false;
+// Reads a file and replays it; false where there is none.
+fn replay_file(rt: &(impl Files + AllocGlobal), name: &str) -> std::io::Result<bool> {
+    match fs::read(rt, name) {
+        Ok(text) => {
+            replay_all(text.as_slice());
+            Ok(true)
+        }
+        Err(e) => {
+            if e.kind() == ErrorKind::NotFound {
+                return Ok(false);
+            }
+            Err(e)
+        }
     }
-    let len = io::read_full(file, text);
-    libc::close(file);
-    replay_all(&text[0..len]);
-    true
 }
 
 // Replays the files, each named by h and a digit.
-fn replay_files(text: &mut [u8]) {
-    let mut k: u8 = 0;
-    while k < 10 {
-        let name = [b'h', b'0' + k];
-        if !replay_file(&name, text) {
-            return;
+fn replay_files(rt: &(impl Files + AllocGlobal)) -> std::io::Result<()> {
+    for k in 0..10u8 {
+        let name = format!(in rt.alloc(); "h{k}")?;
+        if !replay_file(rt, name.as_str())? {
+            return Ok(());
         }
-        k += 1;
     }
+    Ok(())
 }
 
-fn main() {
-    let mut text = io::large_buffer();
-    replay_files(&mut text);
+fn main(rt: HostRuntime) -> std::io::Result<()> {
+    replay_files(&rt)
 }

@@ -1,6 +1,8 @@
 // Replays answers of the published source, which data/ holds, a file for each function, and answers at boundaries, computed apart:
 // calls the function on the same input, and compares what it answers and what its buffers then hold. Writes a line for each function or
 // subject.
+#![tactic(auto)]
+
 mod call;
 mod cut;
 mod free;
@@ -8,7 +10,13 @@ mod head;
 mod page;
 
 use hex_fields::{field, hex, part};
-use libc::STDOUT_FILENO;
+use std::alloc::{AllocError, Global};
+use std::fs;
+use std::io::ErrorKind;
+use std::rt::Files;
+
+// The descriptor of standard output.
+const STDOUT: i32 = 1;
 
 // The most bytes and numbers of an answer.
 const MOST_BYTES: usize = 4097;
@@ -79,12 +87,12 @@ fn replay(s: &[u8]) -> bool {
 
 // Writes the line of a function: its name, how many answers were replayed, and how many differ.
 fn show(name: &[u8], answers: u64, differ: u64) {
-    io::write_all(STDOUT_FILENO, name);
-    io::write_all(STDOUT_FILENO, b": ");
-    io::print_decimal(STDOUT_FILENO, answers);
-    io::write_all(STDOUT_FILENO, b" replayed, ");
-    io::print_decimal(STDOUT_FILENO, differ);
-    io::write_all(STDOUT_FILENO, b" differ\n");
+    io::write_all(STDOUT, name);
+    io::write_all(STDOUT, b": ");
+    io::print_decimal(STDOUT, answers);
+    io::write_all(STDOUT, b" replayed, ");
+    io::print_decimal(STDOUT, differ);
+    io::write_all(STDOUT, b" differ\n");
 }
 
 // Replays a text: lines of answers, and after those of a function one with '=' and its name.
@@ -111,49 +119,50 @@ fn replay_all(text: &[u8]) {
     }
 }
 
-// Reads a file into lent room and replays it; false where there is none.
-fn replay_file(name: &[u8; 2], text: &mut [u8]) -> bool {
-    let file = os::open_read(name);
-    if file < 0 {
-        return false;
+// Reads a file and replays it; false where there is none.
+fn replay_file(rt: &(impl Files + AllocGlobal), name: &str) -> std::io::Result<bool> {
+    match fs::read(rt, name) {
+        Ok(text) => {
+            replay_all(text.as_slice());
+            Ok(true)
+        }
+        Err(e) => {
+            if e.kind() == ErrorKind::NotFound {
+                return Ok(false);
+            }
+            Err(e)
+        }
     }
-    let len = io::read_full(file, text);
-    libc::close(file);
-    replay_all(&text[0..len]);
-    true
 }
 
 // The name of a function's file: its number, in two digits.
-fn name_of(function: u8) -> [u8; 2] {
-    [b'0' + function / 10 % 10, b'0' + function % 10]
+fn name_of(alloc: Global, function: u8) -> Result<String, AllocError> {
+    format!(in alloc; "{function:02}")
 }
 
 // Replays the files of the functions, in the order of their numbers.
-fn replay_functions(text: &mut [u8]) {
-    let mut function: u8 = 0;
-    while function < 100 {
-        let name = name_of(function);
-        if !replay_file(&name, text) {
-            return;
+fn replay_functions(rt: &(impl Files + AllocGlobal)) -> std::io::Result<()> {
+    for function in 0..100u8 {
+        let name = name_of(rt.alloc(), function)?;
+        if !replay_file(rt, name.as_str())? {
+            return Ok(());
         }
-        function += 1;
     }
+    Ok(())
 }
 
 // Replays the files of boundaries, each named by b and a digit.
-fn replay_boundaries(text: &mut [u8]) {
-    let mut k: u8 = 0;
-    while k < 10 {
-        let name = [b'b', b'0' + k];
-        if !replay_file(&name, text) {
-            return;
+fn replay_boundaries(rt: &(impl Files + AllocGlobal)) -> std::io::Result<()> {
+    for k in 0..10u8 {
+        let name = format!(in rt.alloc(); "b{k}")?;
+        if !replay_file(rt, name.as_str())? {
+            return Ok(());
         }
-        k += 1;
     }
+    Ok(())
 }
 
-fn main() {
-    let mut text = io::large_buffer();
-    replay_functions(&mut text);
-    replay_boundaries(&mut text);
+fn main(rt: HostRuntime) -> std::io::Result<()> {
+    replay_functions(&rt)?;
+    replay_boundaries(&rt)
 }

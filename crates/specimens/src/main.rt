@@ -1,4 +1,6 @@
 // Runs the specimens: numbers written, read back and measured, and byte strings read, each result a line on standard output.
+#![tactic(auto)]
+
 use compact::{ReadUleb128, WriteUleb128};
 
 // Writes n to the start of dst, shows what was written, and answers its length; 0 where it was refused.

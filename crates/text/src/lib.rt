@@ -1,5 +1,10 @@
-// What the programs write to standard output: words, numbers in decimal, bytes in hexadecimal.
-use libc::STDOUT_FILENO;
+// What the programs write to standard output: words, numbers in decimal, bytes in hexadecimal; and where a byte stands in a text.
+#![tactic(auto)]
+
+ghost use Rattle.std.specs.Prelude.{◌≡◌, ℕ, ◌<◌, ◌≤◌, ◌≢◌, length, slice_index};
+
+// The descriptor of standard output.
+const STDOUT: i32 = 1;
 
 // The first len bytes of a buffer; all of them where it has fewer.
 pub fn first(buf: &[u8], len: usize) -> &[u8] {
@@ -9,14 +14,31 @@ pub fn first(buf: &[u8], len: usize) -> &[u8] {
     buf
 }
 
+// The index of the first b from one index of a text up to another, or that other where there is none.
+pub fn find(text: &[u8], start: usize, end: usize, b: u8) -> usize
+    requires order { start ≤ end }
+    requires within { end ≤ length text.now }
+    ensures low { start ≤ result }
+    ensures high { result ≤ end }
+    ensures before { (k : ℕ) → start ≤ k → k < result → slice_index text.now k ≢ b }
+    ensures found { result < end → slice_index text.now result ≡ b }
+{
+    for i in start..end {
+        if text[i] == b {
+            return i;
+        }
+    }
+    end
+}
+
 // Writes some words.
 pub fn words(some: &[u8]) {
-    io::write_all(STDOUT_FILENO, some);
+    io::write_all(STDOUT, some);
 }
 
 // Writes a number in decimal.
 pub fn number(n: u64) {
-    io::print_decimal(STDOUT_FILENO, n);
+    io::print_decimal(STDOUT, n);
 }
 
 // Writes some words and a number in decimal.
@@ -43,7 +65,7 @@ fn hex_digit(d: u8) -> u8 {
 // Writes a byte in hexadecimal, with a space before it.
 fn byte(b: u8) {
     let digits = [b' ', hex_digit(b / 16), hex_digit(b)];
-    io::write_all(STDOUT_FILENO, &digits);
+    io::write_all(STDOUT, &digits);
 }
 
 // Writes each of some bytes.

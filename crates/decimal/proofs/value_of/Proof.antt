@@ -4,8 +4,8 @@ use mathlib.Core.List.{List}
 use mathlib.Core.Path.{◌≡◌, refl, sym, ap, ◌∙◌}
 use native.Mathlib.Omega.{arith}
 use borrow.Author.Rules.{rules}
-use lib.ListN.{length, drop, drop_of_length-le, get_or}
-use Rattle.decimal.specs.Decimal.{value_from, value_of, in64_bits}
+use lib.ListN.{length, drop, drop_of_length-le}
+use Rattle.decimal.specs.Decimal.{value_from, value_of}
 use Rattle.decimal.specs.declared.ReadDecimal.TheVariants.{Number}
 use Rattle.decimal.proofs.LawsDecimal.{value_step, value_grows, fits, passes}
 use Rattle.decimal.proofs.value_of.Statement.{statement}
