@@ -122,11 +122,11 @@ split_from room front (p ∷ q ∷ ps) f =
     let whole : List ℕ = joined (q ∷ ps) in
     let long : length (front ++ p) ≡ length front + length p = length-append front p in
     let moved : split_ranges (front ++ (p ++ whole)) (ranges_from (length front + length p) (q ∷ ps))
-        ≡ ranges_from (length front + length p) (recut_last last_page_room (q ∷ ps)) =
-        subst (λ (l : List ℕ). split_ranges l (ranges_from (length front + length p) (q ∷ ps))
-        ≡ ranges_from (length front + length p) (recut_last last_page_room (q ∷ ps))) (append_assoc front p whole)
-        (subst (λ (n : ℕ). split_ranges ((front ++ p) ++ whole) (ranges_from n (q ∷ ps)) ≡ ranges_from n (recut_last last_page_room (q ∷ ps)))
-        long (split_from room (front ++ p) (q ∷ ps) f.2)) in
+    ≡ ranges_from (length front + length p) (recut_last last_page_room (q ∷ ps)) =
+    subst (λ (l : List ℕ). split_ranges l (ranges_from (length front + length p) (q ∷ ps))
+    ≡ ranges_from (length front + length p) (recut_last last_page_room (q ∷ ps))) (append_assoc front p whole)
+    (subst (λ (n : ℕ). split_ranges ((front ++ p) ++ whole) (ranges_from n (q ∷ ps)) ≡ ranges_from n (recut_last last_page_room (q ∷ ps)))
+    long (split_from room (front ++ p) (q ∷ ps) f.2)) in
     ap (λ (rs : List (List ℕ)). range_of (length front) (length front + length p) ∷ rs) moved
 
 -- the ranges of the cutting are those of the greedy parts for pages, with the last one split

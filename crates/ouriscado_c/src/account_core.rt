@@ -1,0 +1,165 @@
+// The functions of crate ouriscado in src/account_core.rt, for C: each export calls the one of its name, whose comment says what it does.
+ghost use Rattle.std.specs.Prelude.{List, ◌≢◌, ◌≡◌, ℕ, length as length_of_list};
+ghost use Rattle.error.specs.Refusal.{refusal_of, value_or};
+ghost use Rattle.book_rules.specs.Outcomes.{answer_of, book_after};
+ghost use Rattle.book_rules.specs.declared.places.SlabFit.TheVariants.{Spare, Tight};
+ghost use Rattle.book.specs.Answers.{book_of};
+ghost use Rattle.book_load.specs.Loads.{loads};
+ghost use Rattle.book_append.specs.Appends.{appends};
+ghost use Rattle.book_read.specs.Reads.{reads, list_after};
+ghost use Rattle.book_drop.specs.Drops.{drops};
+ghost use Rattle.book_read.specs.Answers.{counted_of};
+ghost use Rattle.ouriscado.specs.OutHead.{kind_out, class_out, used_out, place_out};
+ghost use Rattle.ouriscado.specs.OutBook.{pages_loaded, new_place, records_rewritten, length_dropped};
+
+#[unsafe(no_mangle)]
+pub extern "C" fn ouriscado_core_load(
+    body: &mut [u8],
+    heads: &mut [u64],
+    mark: &mut u64,
+    free: &mut [u64; 9],
+    counts: &mut [u64; 49],
+    desk: u64,
+    key: u64,
+    fks: &[u64],
+    pages: &mut u64,
+) -> u32
+    ensures number { result ≡ refusal_of (loads Spare desk
+        (book_of body.old heads.old mark.old free.old counts.old) key
+        fks.now) }
+    ensures book { book_of body.new heads.new mark.new free.new counts.new
+        ≡ book_after (book_of body.old heads.old mark.old free.old counts.old)
+        (loads Spare desk
+        (book_of body.old heads.old mark.old free.old counts.old) key
+        fks.now) }
+    ensures pages { pages.new ≡ value_or pages_loaded (answer_of (loads Spare desk
+        (book_of body.old heads.old mark.old free.old counts.old) key
+        fks.now)) 0 }
+    ensures kept { result ≢ 0 → book_of body.new heads.new mark.new free.new counts.new
+        ≡ book_of body.old heads.old mark.old free.old counts.old }
+{
+    ouriscado::ouriscado_core_load(body, heads, mark, free, counts, desk, key, fks, pages)
+}
+
+#[unsafe(no_mangle)]
+pub extern "C" fn ouriscado_core_load_tight(
+    body: &mut [u8],
+    heads: &mut [u64],
+    mark: &mut u64,
+    free: &mut [u64; 9],
+    counts: &mut [u64; 49],
+    desk: u64,
+    key: u64,
+    fks: &[u64],
+    pages: &mut u64,
+) -> u32
+    ensures number { result ≡ refusal_of (loads Tight desk
+        (book_of body.old heads.old mark.old free.old counts.old) key
+        fks.now) }
+    ensures book { book_of body.new heads.new mark.new free.new counts.new
+        ≡ book_after (book_of body.old heads.old mark.old free.old counts.old)
+        (loads Tight desk
+        (book_of body.old heads.old mark.old free.old counts.old) key
+        fks.now) }
+    ensures pages { pages.new ≡ value_or pages_loaded (answer_of (loads Tight desk
+        (book_of body.old heads.old mark.old free.old counts.old) key
+        fks.now)) 0 }
+    ensures kept { result ≢ 0 → book_of body.new heads.new mark.new free.new counts.new
+        ≡ book_of body.old heads.old mark.old free.old counts.old }
+{
+    ouriscado::ouriscado_core_load_tight(body, heads, mark, free, counts, desk, key, fks, pages)
+}
+
+#[unsafe(no_mangle)]
+pub extern "C" fn ouriscado_core_append(
+    body: &mut [u8],
+    heads: &mut [u64],
+    mark: &mut u64,
+    free: &mut [u64; 9],
+    counts: &mut [u64; 49],
+    desk: u64,
+    key: u64,
+    fk: u64,
+    kind: &mut u8,
+    class: &mut u8,
+    used: &mut u16,
+    place: &mut u64,
+    rewritten: &mut u64,
+) -> u32
+    ensures number { result ≡ refusal_of (appends desk
+        (book_of body.old heads.old mark.old free.old counts.old) key fk) }
+    ensures book { book_of body.new heads.new mark.new free.new counts.new
+        ≡ book_after (book_of body.old heads.old mark.old free.old counts.old)
+        (appends desk
+        (book_of body.old heads.old mark.old free.old counts.old) key fk) }
+    ensures kind { kind.new ≡ value_or (λ t. kind_out (new_place t)) (answer_of (appends desk
+        (book_of body.old heads.old mark.old free.old counts.old) key fk)) 0 }
+    ensures class { class.new ≡ value_or (λ t. class_out (new_place t)) (answer_of (appends desk
+        (book_of body.old heads.old mark.old free.old counts.old) key fk)) 0 }
+    ensures used { used.new ≡ value_or (λ t. used_out (new_place t)) (answer_of (appends desk
+        (book_of body.old heads.old mark.old free.old counts.old) key fk)) 0 }
+    ensures place { place.new ≡ value_or (λ t. place_out (new_place t)) (answer_of (appends desk
+        (book_of body.old heads.old mark.old free.old counts.old) key fk)) 0 }
+    ensures rewritten { rewritten.new ≡ value_or records_rewritten (answer_of (appends desk
+        (book_of body.old heads.old mark.old free.old counts.old) key fk)) 0 }
+    ensures kept { result ≢ 0 → book_of body.new heads.new mark.new free.new counts.new
+        ≡ book_of body.old heads.old mark.old free.old counts.old }
+{
+    ouriscado::ouriscado_core_append(
+        body, heads, mark, free, counts, desk, key, fk, kind, class, used, place, rewritten,
+    )
+}
+
+#[unsafe(no_mangle)]
+pub extern "C" fn ouriscado_core_read(
+    body: &[u8],
+    heads: &[u64],
+    mark: u64,
+    key: u64,
+    out: &mut [u64],
+    length: &mut u64,
+    pages: &mut u64,
+    padded: &mut u64,
+) -> u32
+    ensures number { (free counts : List ℕ) → result ≡ refusal_of (reads
+        (book_of body.now heads.now mark free counts) key (length_of_list out.old)) }
+    ensures list { (free counts : List ℕ) → out.new
+        ≡ list_after out.old (reads (book_of body.now heads.now mark free counts) key
+        (length_of_list out.old)) }
+    ensures length { (free counts : List ℕ) → length.new
+        ≡ value_or (λ t. (counted_of t).length) (reads (book_of body.now heads.now mark free counts) key
+        (length_of_list out.old)) 0 }
+    ensures pages { (free counts : List ℕ) → pages.new
+        ≡ value_or (λ t. (counted_of t).pages) (reads (book_of body.now heads.now mark free counts) key
+        (length_of_list out.old)) 0 }
+    ensures padded { (free counts : List ℕ) → padded.new
+        ≡ value_or (λ t. (counted_of t).padded) (reads (book_of body.now heads.now mark free counts) key
+        (length_of_list out.old)) 0 }
+    ensures kept { result ≢ 0 → out.new ≡ out.old }
+{
+    ouriscado::ouriscado_core_read(body, heads, mark, key, out, length, pages, padded)
+}
+
+#[unsafe(no_mangle)]
+pub extern "C" fn ouriscado_core_drop(
+    body: &mut [u8],
+    heads: &mut [u64],
+    mark: &mut u64,
+    free: &mut [u64; 9],
+    counts: &mut [u64; 49],
+    desk: u64,
+    key: u64,
+    length: &mut u64,
+) -> u32
+    ensures number { result ≡ refusal_of (drops desk
+        (book_of body.old heads.old mark.old free.old counts.old) key) }
+    ensures book { book_of body.new heads.new mark.new free.new counts.new
+        ≡ book_after (book_of body.old heads.old mark.old free.old counts.old)
+        (drops desk (book_of body.old heads.old mark.old free.old counts.old) key) }
+    ensures length { length.new ≡ value_or length_dropped (answer_of (drops desk
+        (book_of body.old heads.old mark.old free.old counts.old) key)) 0 }
+    ensures kept { result ≢ 0 → book_of body.new heads.new mark.new free.new counts.new
+        ≡ book_of body.old heads.old mark.old free.old counts.old }
+{
+    ouriscado::ouriscado_core_drop(body, heads, mark, free, counts, desk, key, length)
+}

@@ -1,0 +1,31 @@
+// The functions of crate ouriscado in src/cut.rt, for C: each export calls the one of its name, whose comment says what it does.
+ghost use Rattle.std.specs.Prelude.{◌≡◌, length};
+ghost use Rattle.error.specs.Refusal.{refusal_of, value_or};
+ghost use Rattle.scripthash_cutting.specs.Cutting.{chunk_ranges, after_chunk_ranges, split_last, after_split_last};
+
+#[unsafe(no_mangle)]
+pub extern "C" fn ouriscado_sh_page_chunk_ranges(
+    fks: &[u64],
+    out: &mut [[usize; 2]],
+    parts: &mut usize,
+) -> u32
+    ensures number { result ≡ refusal_of (chunk_ranges (length out.old) fks.now) }
+    ensures list { out.new ≡ after_chunk_ranges out.old fks.now }
+    ensures parts { parts.new ≡ value_or (λ x. x) (chunk_ranges (length out.old) fks.now) 0 }
+{
+    ouriscado::ouriscado_sh_page_chunk_ranges(fks, out, parts)
+}
+
+#[unsafe(no_mangle)]
+pub extern "C" fn ouriscado_split_last_chunk_for_extent(
+    fks: &[u64],
+    chunks: &mut [[usize; 2]],
+    count: usize,
+    parts: &mut usize,
+) -> u32
+    ensures number { result ≡ refusal_of (split_last fks.now chunks.old count) }
+    ensures list { chunks.new ≡ after_split_last fks.now chunks.old count }
+    ensures parts { parts.new ≡ value_or (λ x. x) (split_last fks.now chunks.old count) 0 }
+{
+    ouriscado::ouriscado_split_last_chunk_for_extent(fks, chunks, count, parts)
+}
