@@ -26,7 +26,7 @@ use Rattle.free_runs.specs.Runs.{is_in, stretch, lesser, least_of, left_of}
 use Rattle.free_runs.specs.PageList.{walked, pages_end, run_sought, relinked}
 use Rattle.book_limits.specs.Limits.{out_of_shape, pop_end}
 use Rattle.book_rules.specs.Places.{stays, larger, moves_to, loads_to}
-use Rattle.book_desks.specs.Desks.{Limits, beyond_desks, list_bad, sum_to, lacks_with, above, permitted}
+use Rattle.book_desks.specs.Desks.{beyond_desks, list_bad, sum_to, lacks_with, above, permitted}
 use Rattle.book_desks.specs.Counts.{listed, held_in, limits_in, fresh_counts, counts_high, counted}
 use Rattle.plain_book.specs.Book.{unlimited}
 use Rattle.book_space.specs.Space.{mark_bad, shape_broken, take_mark, take_slab, rounded, take_fresh, take_popped, take_block, release}

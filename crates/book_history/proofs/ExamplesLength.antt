@@ -1,7 +1,7 @@
 -- Lengths of a small book over bytes, each computed: a slab, an inline number, an empty key, a head that tells another count, and a key
 -- beyond the heads. Assumes nothing.
 use Prim.Native.Nat.{ℕ}
-use mathlib.Core.List.{List, [], ◌∷◌, ◌++◌}
+use mathlib.Core.List.{[], ◌∷◌, ◌++◌}
 use mathlib.Core.Path.{◌≡◌, refl}
 use lib.ListN.{replicate}
 use Rattle.error.specs.Refusal.{Answer, accepted, refused, refuse_if, and_then, key_unsound, key_beyond}

@@ -23,7 +23,6 @@ use Rattle.scripthash_pages.specs.Entries.{last_of, Spot, spot_behind}
 use Rattle.scripthash_free.specs.FreeList.{Block, is_block}
 use Rattle.scripthash_free.proofs.LawsBlock.{block_stands}
 use Rattle.book_limits.specs.Limits.{out_of_shape, most_body}
-use Rattle.book_limits.proofs.LawsLimits.{in_shape}
 use Rattle.book_desks.specs.Desks.{desks}
 use Rattle.book_desks.specs.Counts.{held_count, counted}
 use Rattle.plain_book.specs.Space.{Space as PlainSpace, Taken as PlainTaken, take_block as plain_take}
@@ -37,8 +36,7 @@ use Rattle.plain_book.proofs.LawsOwners.{some_inj, none_some, kind_of, depth_of,
 use Rattle.plain_book.proofs.LawsHistory.{leave_refuses}
 use Rattle.plain_book.proofs.LawsTaking.{good_taken}
 use Rattle.plain_book.proofs.LawsBlocks.{joined_at}
-use Rattle.plain_book.proofs.LawsChain.{chain, mark_most}
-use Rattle.plain_book.proofs.LawsTotals.{total_most}
+use Rattle.plain_book.proofs.LawsChain.{chain}
 use Rattle.book_space.specs.Space.{Space, space}
 use Rattle.book_space.specs.Desks.{TakenFor}
 use Rattle.book_keys.specs.Keys.{good_extent, Tail}

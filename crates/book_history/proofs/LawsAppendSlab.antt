@@ -1,6 +1,6 @@
 -- The two books answer an append alike, where the key is empty, inline or in a slab: it stays, or moves to a slab or a page. Assumes
 -- nothing.
-use Prim.Native.Nat.{ℕ, ◌+◌, ◌-◌, ◌%◌, ◌^◌, ◌≤◌, ◌<◌}
+use Prim.Native.Nat.{ℕ, ◌+◌, ◌-◌, ◌^◌, ◌≤◌, ◌<◌}
 use mathlib.Core.Bool.{Bool, true, false, cond, true≢false}
 use mathlib.Core.List.{List, [], ◌∷◌, ◌++◌}
 use mathlib.Core.Logic.{◌⊎◌, inl, inr, ⊎_elim, ◌≢◌}
@@ -26,7 +26,6 @@ use Rattle.scripthash_cutting.specs.Cutting.{last_page_room}
 use Rattle.scripthash_free.specs.FreeList.{Block, is_block}
 use Rattle.book_limits.specs.Limits.{out_of_shape, most_body, total_told}
 use Rattle.book_rules.specs.Places.{stays, moves_to}
-use Rattle.book_limits.proofs.LawsLimits.{in_shape}
 use Rattle.book_rules.proofs.LawsRules.{stays_holds, moves_to_lem}
 use Rattle.book_rules.specs.Outcomes.{Appended}
 use Rattle.book_desks.specs.Counts.{held_count, counted}
@@ -44,7 +43,6 @@ use Rattle.plain_book.proofs.LawsTaking.{good_taken}
 use Rattle.plain_book.proofs.LawsHistory.{leave_refuses}
 use Rattle.plain_book.proofs.LawsDesks.{place_back}
 use Rattle.plain_book.proofs.LawsSound.{rises_snoc, moved_small}
-use Rattle.plain_book.proofs.LawsChain.{mark_most}
 use Rattle.book_space.specs.Space.{space, release}
 use Rattle.book_space.specs.Desks.{TakenFor}
 use Rattle.book_keys.specs.Keys.{block_at}

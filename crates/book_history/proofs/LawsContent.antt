@@ -37,7 +37,6 @@ use Rattle.plain_book.specs.Good.{GoodPlain}
 use Rattle.plain_book.proofs.LawsHeads.{head_told}
 use Rattle.plain_book.proofs.LawsOwners.{depth_of, at_key}
 use Rattle.plain_book.proofs.LawsChain.{pages_few, mark_most, last_any, part_rises, chain}
-use Rattle.plain_book.proofs.LawsTotals.{total_most}
 use Rattle.book_space.specs.Space.{Space}
 use Rattle.book_keys.specs.Keys.{soundly, sure, go_on, good_extent, block_at, slab_scan, link_scan, last_at, page_then, walk, total_good, chain_at}
 use Rattle.book_keys.specs.Keys.{page_blocks, content_at, content, tail_at}

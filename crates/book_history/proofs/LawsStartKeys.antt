@@ -23,7 +23,7 @@ use Rattle.scripthash_slabs.specs.Slab.{slab_used, slab_padded}
 use Rattle.scripthash_fields.specs.Page.{creates_field_of}
 use Rattle.scripthash_pages.proofs.LawsAppended.{count_least}
 use Rattle.scripthash_free.specs.FreeList.{Block}
-use Rattle.plain_book.specs.Key.{Kept, slab, pages, Key, total_of, no_page, head_of, kept_as, pages_of}
+use Rattle.plain_book.specs.Key.{Kept, slab, Key, total_of, no_page, head_of, kept_as, pages_of}
 use Rattle.plain_book.specs.Sound.{Fits, SoundKey}
 use Rattle.plain_book.specs.Owners.{page_no, slab_at, page_in}
 use Rattle.plain_book.proofs.LawsOwners.{some_inj, none_some}

@@ -26,7 +26,7 @@ use Rattle.book_desks.proofs.LawsSums.{sum_set}
 use Rattle.book_desks.proofs.LawsDesks.{desk_in_lem}
 use Rattle.plain_book.specs.Book.{fresh as plain_fresh, makes}
 use Rattle.plain_book.proofs.LawsGood.{shapes_kept}
-use Rattle.book_space.specs.Space.{space, shape_broken}
+use Rattle.book_space.specs.Space.{shape_broken}
 use Rattle.book_keys.specs.Keys.{soundly, Content, content}
 use Rattle.book_keys.proofs.LawsContent.{content_at_lem, content_inline}
 use Rattle.book.specs.Book.{Book, fresh, word_of, seen}

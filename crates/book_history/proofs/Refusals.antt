@@ -6,13 +6,12 @@ use mathlib.Core.Bool.{false, true≢false}
 use mathlib.Core.List.{List, [], ◌∷◌}
 use mathlib.Core.Path.{◌≡◌, refl, sym, ap, ◌∙◌}
 use lib.ListN.{length, length-replicate}
-use Rattle.error.specs.Refusal.{Answer, accepted, refused, answered, free_head_bad, free_list_bad}
+use Rattle.error.specs.Refusal.{Answer, accepted, refused, free_head_bad, free_list_bad}
 use Rattle.error.proofs.LawsAnswer.{was_refused}
-use Rattle.book_rules.specs.Outcomes.{answer_of}
 use Rattle.book_statements.specs.Calls.{Change, Made, Call, change, Answers, done, asked, changed, answers_to}
 use Rattle.book_desks.specs.Desks.{Limits}
 use Rattle.plain_book.specs.Key.{empty_key}
-use Rattle.plain_book.specs.Book.{fresh as plain_fresh, makes, does}
+use Rattle.plain_book.specs.Book.{fresh as plain_fresh, makes}
 use Rattle.plain_book.specs.Low.{LowSlabs, PastTop}
 use Rattle.plain_book.specs.Refusals.{key_refusals, is_one_of, RefusedBy, EachRefusedBy}
 use Rattle.plain_book.proofs.LawsGood.{is_made, fresh_good}

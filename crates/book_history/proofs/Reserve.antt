@@ -13,9 +13,9 @@ use Rattle.book_rules.specs.Outcomes.{Appended, answer_of}
 use Rattle.book_statements.specs.Calls.{append, Call}
 use Rattle.book_limits.specs.Limits.{out_of_shape}
 use Rattle.book_desks.specs.Desks.{desks, Limits, desk_count, lacks, desk_of}
-use Rattle.book_desks.specs.Counts.{reserve_at, ceiling_at, held_count, held_in, limits_in}
+use Rattle.book_desks.specs.Counts.{ceiling_at, held_count, held_in, limits_in}
 use Rattle.book_desks.proofs.LawsCounts.{held_at_lem, reserve_at_lem, ceiling_at_lem}
-use Rattle.plain_book.specs.Key.{Key, empty_key}
+use Rattle.plain_book.specs.Key.{empty_key}
 use Rattle.plain_book.specs.Book.{Book as PlainBook, fresh as plain_fresh, makes, key_of, desk_in, does as plain_does, after as plain_after}
 use Rattle.plain_book.specs.Needs.{needs_page}
 use Rattle.plain_book.specs.Good.{GoodPlain}
@@ -25,7 +25,7 @@ use Rattle.book.specs.Book.{Book, fresh}
 use Rattle.book_start.specs.Start.{to_be_had_in, GoodStart}
 use Rattle.book_history.specs.Calls.{does, after}
 use Rattle.book_history.specs.Agrees.{Agrees}
-use Rattle.book_history.specs.PlainOf.{key_from, plain_of, Sixteen}
+use Rattle.book_history.specs.PlainOf.{plain_of, Sixteen}
 use Rattle.book_history.specs.Reserve.{DesksKept, PagePromised}
 use Rattle.book_history.proofs.LawsCalls.{alike_answer, books_agree}
 use Rattle.book_history.proofs.LawsDesks.{key_desk}

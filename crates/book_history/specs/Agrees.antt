@@ -1,8 +1,8 @@
 -- When a book over bytes stands for a plain book: each head word tells its key's place, each free head is the top of its stack, and what
 -- every block holds reads as its owner says.
-use Rattle.std.specs.Prelude.{ℕ, zero, suc, ◌^◌, ◌≤◌, true, false, cond, List, [], ◌∷◌, ◌≡◌, eqb, length, get_or}
+use Rattle.std.specs.Prelude.{ℕ, zero, suc, ◌≤◌, true, false, cond, List, [], ◌∷◌, ◌≡◌, eqb, length, get_or}
 use Rattle.std.proofs.Math.Option.{Option, none, some}
-use Rattle.error.specs.Refusal.{Answer, accepted}
+use Rattle.error.specs.Refusal.{accepted}
 use Rattle.buffer.specs.Bytes.{part}
 use Rattle.buffer.specs.LittleEndian.{little_endian}
 use Rattle.scripthash_layout.specs.Sizes.{slab_bytes}

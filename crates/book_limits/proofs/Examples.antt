@@ -1,9 +1,9 @@
 -- The limits at their boundaries: each value is computed. Assumes nothing.
-use Prim.Native.Nat.{◌+◌, ◌-◌, ◌^◌, min}
+use Prim.Native.Nat.{◌+◌, ◌-◌, ◌^◌}
 use mathlib.Core.Bool.{true, false}
 use mathlib.Core.Path.{◌≡◌, refl}
 use Rattle.book_limits.specs.Limits.{out_of_shape}
-use Rattle.book_limits.specs.Limits.{slabs_end, page_after, past_slabs, gap_end, pop_end, total_told}
+use Rattle.book_limits.specs.Limits.{page_after, past_slabs, gap_end, pop_end, total_told}
 
 -- Bodies and heads at their limits.
 pub shapes_at : (out_of_shape 8192 1 ≡ false) × (out_of_shape 4096 1 ≡ true) × (out_of_shape 8200 1 ≡ true) × (out_of_shape (2 ^ 41) 65536 ≡ false)

@@ -19,7 +19,7 @@ use Rattle.scripthash_free.specs.FreeList.{Within}
 use Rattle.scripthash_free.proofs.LawsBlock.{block_stands, stands_block, slab_stands, lies_gap}
 use Rattle.scripthash_free.proofs.LawsFree.{after_accepted, carve_yes}
 use Rattle.scripthash_free.proofs.LawsGap.{gap_filled, adjoin_within, each_map}
-use Rattle.book_limits.specs.Limits.{slabs_end, page_after, gap_end, pop_end}
+use Rattle.book_limits.specs.Limits.{page_after, gap_end, pop_end}
 use Rattle.book_limits.proofs.LawsLimits.{GapTo, gap_end_lem, pop_below}
 use Rattle.book_space.specs.Space.{Space, space, lists_of, InShape, Taken, take_mark, take_slab, rounded, run_at_mark, take_fresh}
 use Rattle.book_space.specs.Space.{take_popped, take_block, release}

@@ -1,17 +1,16 @@
 -- Forms and their values: the value in pieces, the form at the start of some bytes, and the shortest form among the forms of a number.
 -- Assumes nothing.
 use Prim.Native.Nat.{ℕ, zero, suc, ◌+◌, ◌*◌, ◌/◌, ◌%◌, ◌^◌, ◌≤◌, ◌<◌, zero-le, suc-le-suc}
-use mathlib.Core.Bool.{Bool, true, false, cond, false≢true}
+use mathlib.Core.Bool.{true, false≢true}
 use mathlib.Core.List.{List, [], ◌∷◌, ◌++◌, append_assoc}
-use mathlib.Core.Logic.{◌⊎◌, ⊎_elim}
-use mathlib.Core.Path.{◌≡◌, refl, sym, ap, ◌∙◌, subst}
-use native.Mathlib.Nat.{le_trans, zero-div, zero-mod, pow-succ', div-div-eq-div-mul, mul_assoc, mul-add, add_assoc, div-one, mul_comm}
+use mathlib.Core.Logic.{⊎_elim}
+use mathlib.Core.Path.{◌≡◌, refl, sym, ap, ◌∙◌}
+use native.Mathlib.Nat.{zero-div, pow-succ', div-div-eq-div-mul, div-one}
 use native.Mathlib.Omega.{arith}
 use borrow.Author.Tests.{lt-leb, le-leb}
-use lib.Dec.{leb}
 use lib.ListN.{length, take, drop, get_or, take-append-drop}
 use Rattle.buffer.proofs.LawsOrder.{lt_or_ge}
-use Rattle.compact.specs.Uleb128.{piece, is_nil, is_form, value, form_at, uleb_len, shortest}
+use Rattle.compact.specs.Uleb128.{piece, is_form, value, form_at, uleb_len, shortest}
 use Rattle.compact.proofs.LawsLength.{by_sevens, shortest_small, shortest_large, len_small, len_large}
 
 -- ---- the value in pieces

@@ -1,24 +1,24 @@
 -- Padded forms: the last byte of a form tells whether it is one, so that the bytes 0 count the padded forms of numbers above 0. Assumes
 -- nothing.
-use Prim.Native.Nat.{ℕ, zero, suc, ◌+◌, ◌-◌, ◌*◌, ◌/◌, ◌%◌, ◌≤◌, ◌<◌}
-use mathlib.Core.Bool.{Bool, true, false, cond, not, ◌&&◌, false≢true}
+use Prim.Native.Nat.{ℕ, suc, ◌+◌, ◌-◌, ◌*◌, ◌/◌, ◌%◌, ◌≤◌, ◌<◌}
+use mathlib.Core.Bool.{Bool, true, false, ◌&&◌, false≢true}
 use mathlib.Core.List.{List, [], ◌∷◌, ◌++◌}
-use mathlib.Core.Logic.{◌⊎◌, ⊎_elim}
+use mathlib.Core.Logic.{⊎_elim}
 use mathlib.Core.Path.{◌≡◌, refl, sym, ap, ◌∙◌}
 use native.Mathlib.Nat.{zero-add, add-zero, add_assoc}
 use native.Mathlib.Omega.{arith}
 use borrow.Author.Tests.{lt-leb, le-leb, lt-ltb, le-ltb, eq-eqb, ne_eqb}
-use lib.Dec.{leb, ltb, eqb}
+use lib.Dec.{ltb, eqb}
 use lib.ListN.{length, take, get_or}
 use lib.Seq.{get_or-take}
 use Rattle.error.specs.Refusal.{accepted, answered}
 use Rattle.error.proofs.LawsAnswer.{was_accepted}
 use Rattle.buffer.proofs.LawsOrder.{lt_or_ge}
-use Rattle.compact.specs.Uleb128.{Reading, piece, is_nil, is_form, value, form_at, read_uleb, uleb_len, shortest, padded, one, zeros}
+use Rattle.compact.specs.Uleb128.{Reading, is_form, value, form_at, read_uleb, uleb_len, shortest, padded, one, zeros}
 use Rattle.compact.specs.Uleb128.{NumberRead, number_read}
 use Rattle.compact.proofs.LawsLength.{len_pos, len_small, len_large, by_sevens, shortest_small, shortest_large}
 use Rattle.compact.proofs.LawsForm.{form_pos}
-use Rattle.compact.proofs.LawsRead.{Accepted, read_accepted}
+use Rattle.compact.proofs.LawsRead.{read_accepted}
 
 -- ---- bytes 0
 

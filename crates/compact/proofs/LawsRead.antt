@@ -1,18 +1,17 @@
 -- Reading: what an accepted form is, that a written number reads as itself, and reading resumed in the middle of a form.
 -- Assumes nothing.
-use Prim.Native.Nat.{ℕ, zero, suc, ◌+◌, ◌-◌, ◌*◌, ◌/◌, ◌%◌, ◌^◌, ◌≤◌, ◌<◌, zero-le, suc-le-suc}
-use mathlib.Core.Bool.{Bool, true, false, cond, ◌&&◌, ◌||◌, not}
-use mathlib.Core.List.{List, [], ◌∷◌, ◌++◌}
-use mathlib.Core.Logic.{◌⊎◌, inl, inr, ⊎_elim}
-use mathlib.Core.Path.{◌≡◌, refl, sym, ap, ◌∙◌, subst}
-use native.Mathlib.Nat.{le_trans, lt_irrefl, div-lt_iff_lt-mul, pow-le-pow_right}
+use Prim.Native.Nat.{ℕ, ◌/◌, ◌%◌, ◌^◌, ◌≤◌, ◌<◌}
+use mathlib.Core.Bool.{Bool, true, false, not}
+use mathlib.Core.List.{List, ◌++◌}
+use mathlib.Core.Logic.{◌⊎◌, inl, inr}
+use mathlib.Core.Path.{◌≡◌, refl, sym, ap, ◌∙◌}
+use native.Mathlib.Nat.{lt_irrefl, pow-le-pow_right}
 use native.Mathlib.Omega.{arith}
-use borrow.Author.Tests.{lt-leb, le-leb, lt-ltb, le-ltb, ltb-false, not-false}
-use lib.Dec.{leb, ltb, lit<}
-use lib.ListN.{length, take, drop, get_or, length-take}
-use Rattle.error.specs.Refusal.{Answer, accepted, refused, refuse_if, refusal_of, uleb_cut_short, uleb_overflow}
+use borrow.Author.Tests.{le-ltb, ltb-false, not-false}
+use lib.Dec.{ltb, lit<}
+use lib.ListN.{length, take, get_or, length-take}
+use Rattle.error.specs.Refusal.{accepted, refused, refuse_if, refusal_of, uleb_cut_short, uleb_overflow}
 use Rattle.error.proofs.LawsAnswer.{passed, accepted_inj, refused≢accepted, refuse_yes, refuse_no, neither}
-use Rattle.buffer.proofs.LawsOrder.{lt_or_ge}
 use Rattle.compact.specs.Uleb128.{Reading, piece, is_form, value, form_at, overflows, read_form, read_uleb, uleb_len, shortest}
 use Rattle.compact.proofs.LawsLength.{len_at_most, length_shortest}
 use Rattle.compact.proofs.LawsForm.{value_below, piece_of_value, form_at_take, form_at_append, form_at_whole, form_pos}

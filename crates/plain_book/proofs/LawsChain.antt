@@ -1,6 +1,6 @@
 -- Chains of pages in a good plain book: how many pages and numbers there can be, and how the numbers rise from page to page. Assumes
 -- nothing.
-use Prim.Native.Nat.{ℕ, zero, suc, ◌-◌, ◌*◌, ◌/◌, ◌^◌, ◌≤◌, ◌<◌, zero-le}
+use Prim.Native.Nat.{ℕ, zero, suc, ◌*◌, ◌/◌, ◌^◌, ◌≤◌, ◌<◌, zero-le}
 use mathlib.Core.Bool.{Bool, true, false, cond}
 use mathlib.Core.List.{List, [], ◌∷◌, ◌++◌, append-nil}
 use mathlib.Core.Logic.{⊎_elim, ◌≢◌}
@@ -17,7 +17,7 @@ use Rattle.scripthash_stream.proofs.LawsStream.{last_append}
 use Rattle.scripthash_cutting.proofs.LawsRising.{rising_left, rising_right}
 use Rattle.book_limits.specs.Limits.{out_of_shape, most_body}
 use Rattle.book_limits.proofs.LawsLimits.{in_shape}
-use Rattle.plain_book.specs.Key.{Page, Place, empty, inline, slab, pages, last_page, no_page}
+use Rattle.plain_book.specs.Key.{Page, pages, last_page, no_page}
 use Rattle.plain_book.specs.Book.{Book, key_of}
 use Rattle.plain_book.specs.Sound.{held, FitsPage, FitPages, Fits, RisesFrom}
 use Rattle.plain_book.specs.Owners.{page_of, page_no, page_in, has, places}

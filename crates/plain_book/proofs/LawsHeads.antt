@@ -24,7 +24,7 @@ use Rattle.book_limits.proofs.LawsLimits.{in_shape}
 use Rattle.book_desks.specs.Desks.{Limits}
 use Rattle.plain_book.specs.Book.{Book, fresh, makes, key_of, after}
 use Rattle.plain_book.specs.Sound.{FitPages, Fits}
-use Rattle.plain_book.specs.Owners.{Owner, slab_of, page_of, page_no, slab_at, page_in, has, places}
+use Rattle.plain_book.specs.Owners.{Owner, page_of, page_no, page_in, has, places}
 use Rattle.plain_book.specs.Good.{GoodPlain}
 use Rattle.plain_book.proofs.LawsMark.{mark_within}
 use Rattle.plain_book.proofs.LawsGood.{is_made, fresh_good, calls_good}

@@ -1,21 +1,21 @@
 -- Without a slab past the end of slabs a plain book stays so, whatever is called, and never refuses with 35. Assumes nothing.
-use Prim.Native.Nat.{ℕ, zero, suc, ◌+◌, ◌%◌, ◌≤◌, ◌<◌}
+use Prim.Native.Nat.{ℕ, zero, suc, ◌+◌, ◌%◌, ◌≤◌}
 use mathlib.Core.Bool.{Bool, true, false, cond, not, ◌&&◌, false≢true}
 use mathlib.Core.List.{List, [], ◌∷◌}
 use mathlib.Core.Logic.{◌⊎◌, inl, inr, ⊎_elim}
 use mathlib.Core.Path.{◌≡◌, refl, sym, ap, subst, ◌∙◌}
 use native.Mathlib.Nat.{zero-add}
 use native.Mathlib.Omega.{arith}
-use lib.Dec.{eqb, ltb}
-use lib.ListN.{length, get_or, set, replicate}
-use borrow.Author.Tests.{le-ltb, eqb-true}
+use lib.Dec.{eqb}
+use lib.ListN.{length, get_or, set}
+use borrow.Author.Tests.{le-ltb}
 use Rattle.error.specs.Refusal.{Answer, accepted, refused, free_head_bad}
-use Rattle.error.proofs.LawsAnswer.{passed, accepted_inj}
+use Rattle.error.proofs.LawsAnswer.{passed}
 use Rattle.scripthash_layout.specs.Sizes.{slab_bytes, page_class}
 use Rattle.scripthash_free.specs.FreeList.{Block, Each, Within, gap_blocks}
 use Rattle.scripthash_free.proofs.LawsBlock.{bytes_from_16}
 use Rattle.scripthash_free.proofs.LawsGap.{gap_filled, adjoin_within, each_map}
-use Rattle.book_limits.specs.Limits.{out_of_shape, slabs_end, page_after, past_slabs, gap_end}
+use Rattle.book_limits.specs.Limits.{out_of_shape, slabs_end, past_slabs, gap_end}
 use Rattle.book_limits.proofs.LawsLimits.{gap_end_lem}
 use Rattle.free_runs.specs.Runs.{without_run}
 use Rattle.book_rules.specs.declared.places.SlabFit.{SlabFit}
@@ -24,10 +24,10 @@ use Rattle.book_rules.proofs.LawsRules.{moves_to_lem, loads_to_lem}
 use Rattle.book_statements.specs.Calls.{Change, load, append, drop, Made, Call}
 use Rattle.book_statements.specs.Moves.{no_moves}
 use Rattle.book_desks.specs.Desks.{Limits}
-use Rattle.plain_book.specs.Space.{Space, stack_of, freed, freed_all, Taken, take_mark, take_slab, rounded, run_at_mark, take_run, take_fresh}
+use Rattle.plain_book.specs.Space.{Space, stack_of, freed, freed_all, Taken, take_slab, rounded, run_at_mark, take_run, take_fresh}
 use Rattle.plain_book.specs.Space.{take_from, take_block}
-use Rattle.plain_book.specs.Key.{Page, Place, empty, inline, slab, pages, Key, empty_key, freed_pages, freed_place, Placed, written}
-use Rattle.plain_book.specs.Book.{Book, fresh, Outcome, key_of, does, after, answers}
+use Rattle.plain_book.specs.Key.{Page, Place, empty, inline, slab, pages, Key, freed_pages, freed_place, Placed}
+use Rattle.plain_book.specs.Book.{Book, fresh, Outcome, key_of, does, answers}
 use Rattle.plain_book.specs.Did.{LoadDid, loaded_none, loaded_one, loaded_slab, loaded_run, AppendDid, began, stayed, moved_slab}
 use Rattle.plain_book.specs.Did.{moved_page}
 use Rattle.plain_book.specs.Did.{joined_page, begun_page}

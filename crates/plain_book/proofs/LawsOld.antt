@@ -1,28 +1,28 @@
 -- Bodies of at most 2^30 bytes, which was the limit before change request N8: blocks are taken as they were then, runs out of freed pages
 -- or else as they were then, and every total is told. Assumes nothing.
-use Prim.Native.Nat.{ℕ, ◌+◌, ◌*◌, ◌/◌, ◌^◌, ◌≤◌, ◌<◌}
+use Prim.Native.Nat.{ℕ, ◌+◌, ◌*◌, ◌^◌, ◌≤◌, ◌<◌}
 use mathlib.Core.Bool.{Bool, true, false, cond}
 use mathlib.Core.List.{List, [], ◌∷◌}
 use mathlib.Core.Option.{Option, none, some}
 use mathlib.Core.Path.{◌≡◌, refl, sym, ap, ◌∙◌}
 use native.Mathlib.Omega.{arith}
-use lib.Dec.{ltb, leb, eqb}
+use lib.Dec.{ltb, eqb}
 use lib.ListN.{length, set}
 use borrow.Author.Tests.{le-leb, lt-ltb, ltb-true}
-use Rattle.error.specs.Refusal.{Answer, accepted, refused, refuse_if, no_room}
+use Rattle.error.specs.Refusal.{Answer, accepted, refuse_if, no_room}
 use Rattle.error.proofs.LawsAnswer.{refuse_yes, refuse_no}
 use Rattle.scripthash_layout.specs.Sizes.{slab_bytes, page_class, page_size}
 use Rattle.scripthash_free.specs.FreeList.{gap_blocks}
 use Rattle.scripthash_free.proofs.LawsBlock.{block_stands}
 use Rattle.free_runs.specs.Runs.{lowest}
-use Rattle.book_limits.specs.Limits.{slabs_end, page_after, past_slabs, gap_end, most_counted, total_told}
+use Rattle.book_limits.specs.Limits.{slabs_end, page_after, most_counted, total_told}
 use Rattle.plain_book.specs.Space.{Space, stack_of, freed_all, Taken, take_mark, take_slab, rounded, run_at_mark, take_run, take_fresh}
 use Rattle.plain_book.specs.Space.{take_from}
 use Rattle.plain_book.specs.Space.{take_block, run_freed, take_found}
 use Rattle.plain_book.specs.Key.{Place, empty, inline, slab, pages}
 use Rattle.plain_book.specs.Book.{Book, key_of}
 use Rattle.plain_book.specs.Sound.{Fits}
-use Rattle.plain_book.specs.Owners.{stack, at_depth, has, places}
+use Rattle.plain_book.specs.Owners.{stack, at_depth, has}
 use Rattle.plain_book.specs.Good.{GoodPlain}
 use Rattle.plain_book.proofs.LawsOwners.{top_is}
 use Rattle.plain_book.proofs.LawsLow.{low_block}

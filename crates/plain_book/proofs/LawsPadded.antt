@@ -4,16 +4,15 @@ use Prim.Native.Nat.{ℕ, ◌+◌, ◌<◌}
 use mathlib.Core.List.{List, [], ◌∷◌, ◌++◌}
 use mathlib.Core.Logic.{◌⊎◌, inl, inr, ⊎_elim}
 use mathlib.Core.Path.{◌≡◌, refl, ap, ◌∙◌, subst}
-use native.Mathlib.Nat.{add-zero}
 use native.Mathlib.Omega.{arith}
-use lib.ListN.{length, get_or}
+use lib.ListN.{length}
 use lib.Seq.{get_or-set_same}
 use Rattle.error.specs.Refusal.{Answer, accepted, refused, answered}
 use Rattle.scripthash_layout.specs.Sizes.{page_size}
 use Rattle.scripthash_cutting.specs.Cutting.{cutting, replace_last}
 use Rattle.book_rules.specs.declared.places.SlabFit.{SlabFit}
 use Rattle.book_rules.specs.Outcomes.{Loaded, Appended, Listed, Dropped, book_after, answer_of}
-use Rattle.book_statements.specs.Calls.{Enquiry, read, Change, load, append, drop, Made, Call, ask, change, Answers, changed, answers_to}
+use Rattle.book_statements.specs.Calls.{Enquiry, read, Change, load, append, drop, Made, Call, ask, change, changed, answers_to}
 use Rattle.book_statements.specs.Padded.{NonePadded, ReportsNone, Renews, NoneOnceRenewed}
 use Rattle.book_statements.specs.Moves.{no_moves}
 use Rattle.book_desks.specs.Desks.{Limits}

@@ -34,7 +34,7 @@ use Rattle.plain_book.specs.Key.{Place, empty, inline, slab, pages, moved, joins
 use Rattle.plain_book.specs.Key.{Key, empty_key, pages_of, load_into, load_place, longer, Leave}
 use Rattle.plain_book.specs.Book.{Book, on_key, key_of, allowed, desk_in, leave_of, loads, appends, drops, does}
 use Rattle.plain_book.specs.Grown.{grown, Affords, ForRoom}
-use Rattle.plain_book.specs.Owners.{stack, at_depth, has, places}
+use Rattle.plain_book.specs.Owners.{stack, at_depth, has}
 use Rattle.plain_book.specs.Good.{GoodDesks, GoodPlain, pages_for, pages_of_desk}
 use Rattle.plain_book.proofs.LawsHistory.{all_same}
 use Rattle.plain_book.proofs.LawsOwners.{top_is}

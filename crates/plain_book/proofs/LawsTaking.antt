@@ -1,5 +1,5 @@
 -- Who has which block after a take: the gap before a page carved, a block in hand, and a run of pages for a key. Assumes nothing.
-use Prim.Native.Nat.{ℕ, zero, suc, ◌+◌, ◌-◌, ◌*◌, ◌%◌, ◌≤◌, ◌<◌}
+use Prim.Native.Nat.{ℕ, zero, suc, ◌+◌, ◌*◌, ◌%◌, ◌≤◌, ◌<◌}
 use mathlib.Core.Bool.{Bool, true, false, cond}
 use mathlib.Core.List.{List, [], ◌∷◌}
 use mathlib.Core.Logic.{◌⊎◌, inl, inr, ⊎_elim, ◌≢◌}
@@ -7,7 +7,7 @@ use mathlib.Core.Option.{Option, none, some}
 use mathlib.Core.Path.{◌≡◌, refl, sym, ap, subst, ◌∙◌}
 use native.Mathlib.Nat.{eq-or-lt_of_le}
 use native.Mathlib.Omega.{arith}
-use lib.Dec.{leb, eqb}
+use lib.Dec.{eqb}
 use lib.ListN.{length, length-set}
 use borrow.Author.Tests.{eqb-true, eqb-false}
 use Rattle.error.specs.Refusal.{accepted}
@@ -17,7 +17,7 @@ use Rattle.scripthash_free.specs.FreeList.{Block, is_block, Adjoin, Each, IsSlab
 use Rattle.scripthash_free.proofs.LawsBlock.{stands_block, slab_stands}
 use Rattle.scripthash_free.proofs.LawsGap.{gap_filled, gap_slabs}
 use Rattle.free_runs.specs.Runs.{lowest}
-use Rattle.book_limits.specs.Limits.{slabs_end, page_after, past_slabs, gap_end}
+use Rattle.book_limits.specs.Limits.{page_after, past_slabs, gap_end}
 use Rattle.book_limits.proofs.LawsLimits.{gap_end_lem}
 use Rattle.plain_book.specs.Space.{Space, stack_of, freed, freed_all, Taken, take_mark, take_slab, rounded, take_fresh, take_from}
 use Rattle.plain_book.specs.Space.{take_block, run_at_mark, run_freed, take_found, take_run}

@@ -1,8 +1,8 @@
 -- The plain book (this project's own term: FORMAT, The plain book): what an account book answers to a list of calls, told with no bytes.
-use Rattle.std.specs.Prelude.{ℕ, ◌+◌, ◌-◌, ◌/◌, ◌^◌, Bool, true, false, ◌||◌, List, [], ◌∷◌, ◌++◌, ◌≢◌, leb, ltb, length, get_or, set, replicate}
+use Rattle.std.specs.Prelude.{ℕ, ◌+◌, ◌-◌, ◌^◌, Bool, true, false, List, [], ◌∷◌, ◌++◌, ◌≢◌, leb, ltb, length, get_or, set, replicate}
 use Rattle.error.specs.Refusal.{Answer, accepted, refuse_if, and_then, list_too_short}
 use Rattle.error.specs.Refusal.{shape_bad, key_beyond, key_in_use, too_many_offered, desks_bad}
-use Rattle.scripthash_layout.specs.Sizes.{page_class, page_size}
+use Rattle.scripthash_layout.specs.Sizes.{page_class}
 use Rattle.scripthash_layout.specs.Head.{payload_start}
 use Rattle.scripthash_stream.specs.Stream.{max_offered, last_from}
 use Rattle.book_rules.specs.declared.places.SlabFit.{SlabFit}

@@ -6,12 +6,11 @@ use mathlib.Core.Option.{none, some}
 use mathlib.Core.Path.{◌≡◌, refl, sym, ap, ◌∙◌}
 use native.Mathlib.Omega.{arith}
 use lib.ListN.{length}
-use Rattle.error.specs.Refusal.{Answer, accepted, refused, not_last}
+use Rattle.error.specs.Refusal.{accepted, refused, not_last}
 use Rattle.error.proofs.LawsAnswer.{refuse_yes, refuse_no}
 use Rattle.scripthash_layout.specs.Sizes.{page_size}
 use Rattle.scripthash_fields.specs.Page.{version_of, link_of, is_last_link, link_offset, link_to, next_off, delta_header, extent_header}
 use Rattle.scripthash_fields.specs.Page.{page_of}
-use Rattle.scripthash_fields.specs.FieldAnswers.{Link}
 use Rattle.scripthash_fields.specs.Fields.{read_link, is_last, first_off, next_off_of, extent_of, creates_of, n_fks}
 use Rattle.scripthash_fields.proofs.LawsPage.{page_yes, link_last, link_offset_lem, link_fits}
 use Rattle.scripthash_fields.proofs.LawsPage.{length_delta, delta_version_lem, delta_count, delta_link}

@@ -1,7 +1,7 @@
 -- A page: 4,096 bytes (FORMAT, Page). The version stands at byte 0, the count at 1 (2 bytes), the link at 3 (5 bytes: bit 0 LAST,
 -- the rest a page's index). Version 2 adds the extent's base at 8 (8 bytes), its count at 16 and creates at 20 (4 bytes each). The stream
 -- is the rest.
-use Rattle.std.specs.Prelude.{ℕ, ◌+◌, ◌-◌, ◌*◌, ◌/◌, ◌%◌, ◌^◌, Bool, cond, not, ◌&&◌, ◌||◌, List, [], ◌∷◌, ◌++◌, leb, ltb, eqb, length, drop, replicate}
+use Rattle.std.specs.Prelude.{ℕ, ◌+◌, ◌-◌, ◌*◌, ◌/◌, ◌%◌, ◌^◌, Bool, cond, not, ◌&&◌, ◌||◌, List, ◌++◌, leb, ltb, eqb, length, drop, replicate}
 use Rattle.error.specs.Refusal.{Answer, accepted, refuse_if, page_length, link_unaligned, link_too_large, extent_count_zero, extent_base_bad}
 use Rattle.error.specs.Refusal.{count_above_capacity, version_bad}
 use Rattle.buffer.specs.Bytes.{part, overwrite}

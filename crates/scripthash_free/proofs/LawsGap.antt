@@ -11,7 +11,7 @@ use lib.Dec.{eqb}
 use lib.ListN.{length}
 use borrow.Author.Tests.{eqb-true, eqb-false}
 use Rattle.scripthash_layout.specs.Sizes.{slab_bytes}
-use Rattle.scripthash_free.specs.FreeList.{Lists, Block, reloc_class, block_then, carve, gap_blocks, pushed, push_all, is_block}
+use Rattle.scripthash_free.specs.FreeList.{Lists, Block, reloc_class, block_then, carve, gap_blocks, pushed, push_all}
 use Rattle.scripthash_free.specs.FreeList.{first_freed}
 use Rattle.scripthash_free.specs.FreeList.{IsFreeList, Clear, Each, Within, IsSlab, Adjoin, stack_after}
 use Rattle.scripthash_free.proofs.LawsBlock.{bytes_from_16, slab_stands, Gap, largest_none, largest_some, largest_nothing}

@@ -7,7 +7,7 @@ use native.Mathlib.Omega.{arith}
 use lib.Dec.{leb, eqb}
 use borrow.Author.Tests.{leb-false, eqb-true, eqb-false, lt-leb, ne_eqb, not-false}
 use Rattle.error.proofs.LawsAnswer.{accepted_inj, refused≢accepted, passed, neither}
-use Rattle.error.specs.Refusal.{Answer, accepted, refused, refuse_if, slab_used_too_small, extent_payload_zero}
+use Rattle.error.specs.Refusal.{accepted, refuse_if, slab_used_too_small, extent_payload_zero}
 use Rattle.scripthash_layout.specs.declared.head.ShHeadValue.{ShHeadValue}
 use Rattle.scripthash_layout.specs.declared.head.ShHeadValue.TheVariants.{Empty, Inline, Slab, Extent}
 use Rattle.scripthash_layout.specs.Head.{mode_of, payload_of, offset_of, used_of, class_of, slab_word, extent_word, pack_head, unpack_head}

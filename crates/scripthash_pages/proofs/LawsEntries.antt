@@ -1,6 +1,6 @@
 -- The stream of a page: where it stands, what it is scanned and read as, and the offset of the page behind. Assumes nothing.
 use Prim.Native.Nat.{ℕ, ◌-◌, ◌^◌, ◌≤◌, ◌<◌}
-use mathlib.Core.Bool.{Bool, true, false, cond, not, ◌&&◌, ◌||◌}
+use mathlib.Core.Bool.{true, false, cond, not, ◌&&◌, ◌||◌}
 use mathlib.Core.List.{List}
 use mathlib.Core.Path.{◌≡◌, refl, sym, ap, ◌∙◌}
 use native.Mathlib.Omega.{arith}
@@ -19,7 +19,6 @@ use Rattle.scripthash_stream.proofs.LawsScan.{scan_accepted}
 use Rattle.scripthash_fields.specs.Page.{field, version_of, count_of, link_of, next_off, names_extent, stream_off, stream_cap}
 use Rattle.scripthash_fields.proofs.LawsPage.{field_byte}
 use Rattle.scripthash_fields.proofs.LawsFields.{stream_off_within}
-use Rattle.scripthash_pages.specs.EntryAnswers.{PageRead}
 use Rattle.scripthash_pages.specs.Entries.{StreamAt, stream_place, page_scan, page_entries, page_padded, page_read_of}
 
 -- ---- the stream's place

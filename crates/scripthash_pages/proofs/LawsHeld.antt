@@ -1,5 +1,5 @@
 -- A page of version 2 or 1 that holds the stream of a list reads as the list. Assumes nothing.
-use Prim.Native.Nat.{ℕ, ◌+◌, ◌-◌, ◌^◌, ◌≤◌}
+use Prim.Native.Nat.{ℕ, ◌-◌, ◌^◌, ◌≤◌}
 use mathlib.Core.Bool.{Bool, true, false}
 use mathlib.Core.List.{List, ◌++◌}
 use mathlib.Core.Path.{◌≡◌, sym, ap, ◌∙◌}
@@ -11,7 +11,7 @@ use Rattle.scripthash_stream.specs.Stream.{Rising, stream, stream_len, scan}
 use Rattle.scripthash_stream.proofs.LawsStream.{scan_stream}
 use Rattle.scripthash_fields.specs.Page.{version_of, count_of, stream_off}
 use Rattle.scripthash_fields.proofs.LawsFields.{stream_off_extent, stream_off_other}
-use Rattle.scripthash_pages.specs.Entries.{StreamAt, stream_place, page_scan}
+use Rattle.scripthash_pages.specs.Entries.{stream_place, page_scan}
 use Rattle.scripthash_pages.proofs.LawsEntries.{version_byte, place_by, place_by_lem, scan_yes}
 use Rattle.scripthash_pages.proofs.LawsAppend.{either_of, count_read}
 use Rattle.scripthash_pages.proofs.LawsAppended.{count_least, kept_place}

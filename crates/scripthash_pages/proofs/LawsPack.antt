@@ -1,6 +1,5 @@
 -- Packing a page: the cases of the answer, and what the writes to the page come to. Assumes nothing.
 use Prim.Native.Nat.{ℕ, ◌+◌, ◌-◌, ◌≤◌, ◌<◌}
-use mathlib.Core.Bool.{Bool}
 use mathlib.Core.List.{List, [], ◌++◌, append_assoc, append-nil}
 use mathlib.Core.Path.{◌≡◌, sym, ap, ◌∙◌}
 use native.Mathlib.Nat.{zero-add}
@@ -9,13 +8,13 @@ use borrow.Author.Tests.{lt-ltb, le-ltb, ltb-false}
 use lib.Dec.{ltb}
 use lib.ListN.{length, take, drop, replicate, length-append, length-take, length-drop, drop_of_length-le}
 use lib.Seq.{take_at, drop_at, length-take-le}
-use Rattle.error.specs.Refusal.{Answer, accepted, refused, answered, too_many_offered}
+use Rattle.error.specs.Refusal.{accepted, refused, answered, too_many_offered}
 use Rattle.error.proofs.LawsAnswer.{passed, refuse_yes, refuse_no, refused_alike, answered_yes, answered_no, was_accepted, was_refused}
 use Rattle.buffer.specs.Bytes.{overwrite}
 use Rattle.buffer.proofs.LawsBytes.{length_overwrite}
 use Rattle.buffer.proofs.LawsOverwrite.{overwrite_adjoin}
 use Rattle.scripthash_layout.specs.Sizes.{page_size}
-use Rattle.scripthash_stream.specs.Stream.{Rising, stream, encode_stream, max_offered}
+use Rattle.scripthash_stream.specs.Stream.{stream, encode_stream, max_offered}
 use Rattle.scripthash_stream.proofs.LawsLent.{lent, put_back}
 use Rattle.scripthash_fields.specs.Page.{page_of}
 use Rattle.scripthash_fields.specs.Fields.{done, after_set}

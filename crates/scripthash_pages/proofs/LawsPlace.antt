@@ -9,7 +9,7 @@ use Rattle.error.proofs.LawsAnswer.{refused≢accepted, refused_alike, passed, r
 use Rattle.scripthash_layout.specs.Sizes.{page_size}
 use Rattle.scripthash_fields.specs.Page.{count_of, stream_off}
 use Rattle.scripthash_fields.specs.Fields.{require_delta}
-use Rattle.scripthash_pages.specs.Entries.{StreamAt, stream_place}
+use Rattle.scripthash_pages.specs.Entries.{stream_place}
 
 -- a page that is refused has no place for a stream
 pub place_refused : (page : List ℕ) {number : ℕ} → require_delta page ≡ refused number → stream_place page ≡ refused number

@@ -1,5 +1,5 @@
 -- Streams read straight into a list, and short ones in one pass: what the tries tell. Assumes nothing.
-use Prim.Native.Nat.{ℕ, ◌+◌, ◌-◌, ◌≤◌, ◌<◌}
+use Prim.Native.Nat.{ℕ, ◌-◌, ◌≤◌, ◌<◌}
 use mathlib.Core.List.{List, ◌++◌, append-nil}
 use mathlib.Core.Logic.{inl, inr}
 use mathlib.Core.Path.{◌≡◌, refl, sym, ap, ◌∙◌, subst}
@@ -10,7 +10,7 @@ use lib.Seq.{length-take-le, take_all, drop-length}
 use Rattle.error.specs.Refusal.{Answer, accepted, answered}
 use Rattle.error.proofs.LawsAnswer.{accepted_inj, was_accepted, answered_yes}
 use Rattle.buffer.specs.Bytes.{overwrite}
-use Rattle.scripthash_stream.specs.Stream.{last_from, Scan, scan, End, end_from, ends_from, decode_stream, after_decode}
+use Rattle.scripthash_stream.specs.Stream.{last_from, Scan, scan, End, end_from, decode_stream, after_decode}
 use Rattle.scripthash_stream.proofs.LawsScan.{scan_accepted}
 use Rattle.scripthash_stream.proofs.LawsDecode.{decode_fits, after_accepted}
 use Rattle.scripthash_forms.specs.Quick.{Quick, QuickEnd, QuickSum, ShortRead, unread, short}

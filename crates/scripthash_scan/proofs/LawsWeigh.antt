@@ -1,7 +1,7 @@
 -- Forms weighed together: the weights of a byte add up to the power of 128 that its place in its form has, so that the weights of the bytes
 -- of some forms sum up to the differences. By induction on the bytes. Assumes nothing.
-use Prim.Native.Nat.{ℕ, zero, suc, ◌+◌, ◌-◌, ◌*◌, ◌^◌, ◌≤◌, ◌<◌}
-use mathlib.Core.Bool.{true, false, ◌&&◌, false≢true}
+use Prim.Native.Nat.{ℕ, ◌+◌, ◌-◌, ◌*◌, ◌^◌, ◌≤◌, ◌<◌}
+use mathlib.Core.Bool.{true, false, false≢true}
 use mathlib.Core.List.{List}
 use mathlib.Core.Logic.{⊎_elim}
 use mathlib.Core.Path.{◌≡◌, refl, sym, ap, ◌∙◌}
@@ -14,7 +14,7 @@ use Rattle.error.specs.Refusal.{Answer, accepted}
 use Rattle.buffer.proofs.LawsOrder.{lt_or_ge}
 use Rattle.compact.specs.Uleb128.{goes_on, piece}
 use Rattle.scripthash_stream.specs.Stream.{End, ends_from}
-use Rattle.scripthash_scan.specs.Weights.{total_over, end_at, one_before, two_before, three_before, four_before, piece_at}
+use Rattle.scripthash_scan.specs.Weights.{total_over, end_at, one_before, piece_at}
 use Rattle.scripthash_scan.specs.Weights.{behind_one, behind_two, behind_three, behind_four, weighed, five_go_on, Lacks}
 use Rattle.scripthash_forms.proofs.LawsForms.{Carried, form_start, form_on, form_last}
 use Rattle.scripthash_stream.proofs.LawsScanEnd.{ends_next, ends_now}

@@ -1,19 +1,19 @@
 -- Slab payloads: the cases of writing one, the bytes that it is, and what it reads as. Assumes nothing.
-use Prim.Native.Nat.{ℕ, ◌+◌, ◌-◌, ◌*◌, ◌^◌, ◌≤◌, ◌<◌}
-use mathlib.Core.List.{List, ◌++◌, append_assoc}
-use mathlib.Core.Path.{◌≡◌, refl, sym, ap, ◌∙◌}
+use Prim.Native.Nat.{ℕ, ◌+◌, ◌-◌, ◌^◌, ◌≤◌, ◌<◌}
+use mathlib.Core.List.{List, ◌++◌}
+use mathlib.Core.Path.{◌≡◌, sym, ap, ◌∙◌}
 use native.Mathlib.Omega.{arith}
-use borrow.Author.Tests.{lt-ltb, le-ltb, ltb-false}
+use borrow.Author.Tests.{lt-ltb, le-ltb}
 use lib.Dec.{ltb}
 use lib.ListN.{length, drop}
 use Rattle.error.specs.Refusal.{Answer, accepted, refused, answered, too_many_offered, slab_too_short}
-use Rattle.error.proofs.LawsAnswer.{refuse_yes, refuse_no, answered_yes, answered_no, passed, was_accepted}
+use Rattle.error.proofs.LawsAnswer.{refuse_yes, refuse_no}
 use Rattle.buffer.specs.Bytes.{part, overwrite}
 use Rattle.buffer.specs.LittleEndian.{little_endian, bytes_of}
 use Rattle.buffer.proofs.LawsApart.{overwrite_apart}
 use Rattle.buffer.proofs.LawsOverwrite.{overwrite_adjoin}
 use Rattle.buffer.proofs.LawsLittleEndian.{little_endian_bytes_of}
-use Rattle.scripthash_stream.specs.Stream.{Rising, Scan, stream, stream_len, encode_stream, decode_stream}
+use Rattle.scripthash_stream.specs.Stream.{Rising, stream, stream_len, encode_stream, decode_stream}
 use Rattle.scripthash_stream.specs.Stream.{max_offered}
 use Rattle.scripthash_slabs.specs.Slab.{slab_payload, encode_slab, after_encode_slab, slab_used, decode_slab}
 use Rattle.scripthash_stream.proofs.LawsStream.{scan_stream}

@@ -1,15 +1,13 @@
 -- Offered lists: judged number by number, and written where they fit. Assumes nothing.
-use Prim.Native.Nat.{ℕ, zero, suc, ◌+◌, ◌-◌, ◌^◌, ◌≤◌, ◌<◌}
+use Prim.Native.Nat.{ℕ, ◌+◌, ◌-◌, ◌^◌, ◌≤◌, ◌<◌}
 use mathlib.Core.Bool.{Bool, true, false, ◌&&◌}
 use mathlib.Core.List.{List, [], ◌∷◌}
-use mathlib.Core.Logic.{◌⊎◌, ⊎_elim}
 use mathlib.Core.Path.{◌≡◌, refl, sym, ap, ◌∙◌}
 use native.Mathlib.Nat.{zero-add, add-zero}
 use native.Mathlib.Omega.{arith}
 use borrow.Author.Tests.{lt-leb, leb-false, ne_eqb, lt-ltb, le-ltb, ltb-false}
 use lib.Dec.{leb, ltb, eqb}
-use lib.ListN.{length}
-use Rattle.error.specs.Refusal.{Answer, accepted, refused, refuse_if, offered_first_zero, offered_bit63, offered_not_rising, does_not_fit}
+use Rattle.error.specs.Refusal.{Answer, accepted, refused, does_not_fit}
 use Rattle.error.proofs.LawsAnswer.{refused≢accepted, accepted_inj, passed, refuse_yes, refuse_no, refused_alike}
 use Rattle.buffer.specs.Bytes.{overwrite}
 use Rattle.compact.specs.Uleb128.{uleb_len}

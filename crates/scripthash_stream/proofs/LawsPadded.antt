@@ -3,7 +3,7 @@ use Prim.Native.Nat.{ℕ, zero, suc, ◌+◌, ◌-◌, ◌^◌, ◌≤◌, ◌<�
 use mathlib.Core.Bool.{Bool, true, false}
 use mathlib.Core.List.{List, [], ◌∷◌, ◌++◌, append_assoc}
 use mathlib.Core.Path.{◌≡◌, refl, sym, ap, ◌∙◌}
-use native.Mathlib.Nat.{zero-add, add-zero}
+use native.Mathlib.Nat.{add-zero}
 use borrow.Author.Tests.{le-ltb}
 use lib.Dec.{eqb}
 use native.Mathlib.Omega.{arith}
@@ -15,7 +15,7 @@ use Rattle.compact.specs.Uleb128.{Reading, read_uleb, uleb_len, shortest, padded
 use Rattle.compact.proofs.LawsLength.{len_pos, length_shortest}
 use Rattle.compact.proofs.LawsPadded.{zeros_append, read_zeros, zeros_shortest}
 use Rattle.scripthash_stream.specs.Stream.{Rising, stream, stream_from, stream_len_from, Scan, scan_from, scan, padded_in}
-use Rattle.scripthash_stream.proofs.LawsScan.{Next, next_accepted, Step, scan_step, Scanned, scan_accepted}
+use Rattle.scripthash_stream.proofs.LawsScan.{next_accepted, Step, scan_step, scan_accepted}
 use Rattle.scripthash_stream.proofs.LawsStream.{front, length_stream, scan_stream}
 
 -- the padded numbers of a stream that scans are the bytes 0 among those that it takes: a byte 0 ends a form, and a difference of 0, or a

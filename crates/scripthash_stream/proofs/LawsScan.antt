@@ -1,22 +1,20 @@
 -- Scanning: the numbers one by one, what a scanned list is, and that bytes past the stream don't matter. Assumes nothing.
-use Prim.Native.Nat.{ℕ, zero, suc, ◌+◌, ◌-◌, ◌*◌, ◌^◌, ◌≤◌, ◌<◌}
-use mathlib.Core.Bool.{Bool, true, false, cond, ◌&&◌}
+use Prim.Native.Nat.{ℕ, zero, suc, ◌+◌, ◌-◌, ◌^◌, ◌≤◌, ◌<◌}
 use mathlib.Core.List.{List, [], ◌∷◌, ◌++◌, append_assoc}
-use mathlib.Core.Logic.{◌⊎◌, ⊎_elim}
-use mathlib.Core.Path.{◌≡◌, refl, sym, ap, ◌∙◌, subst}
+use mathlib.Core.Logic.{⊎_elim}
+use mathlib.Core.Path.{◌≡◌, refl, sym, ap, ◌∙◌}
 use native.Mathlib.Nat.{not-suc-le-zero, le_of_suc-le-suc}
 use native.Mathlib.Omega.{arith}
 use borrow.Author.Tests.{leb-false, eqb-false, lt-leb, ne_eqb}
 use lib.Dec.{leb, eqb}
 use lib.ListN.{length, take, drop, length-drop}
 use lib.Seq.{take-add, drop_at, drop-drop, length-take-le}
-use Rattle.error.specs.Refusal.{Answer, accepted, refused, refuse_if, and_then, answered, stored_first_zero, stored_difference_zero}
-use Rattle.error.specs.Refusal.{stored_sum_overflow, stored_bit63}
+use Rattle.error.specs.Refusal.{accepted, refused, refuse_if, and_then}
 use Rattle.error.proofs.LawsAnswer.{accepted_inj, passed, went_on, then_yes, then_no}
 use Rattle.buffer.proofs.LawsOrder.{lt_or_ge}
 use Rattle.compact.specs.Uleb128.{Reading, read_uleb, uleb_len}
-use Rattle.compact.proofs.LawsRead.{Accepted, read_accepted, read_same, read_least}
-use Rattle.scripthash_stream.specs.Stream.{Rising, last_from, stream_len_from, stored_number, next_number, Scan, scan_from, End, end_from}
+use Rattle.compact.proofs.LawsRead.{read_accepted, read_same, read_least}
+use Rattle.scripthash_stream.specs.Stream.{Rising, last_from, stream_len_from, stored_number, next_number, Scan, scan_from}
 
 -- ---- one number
 

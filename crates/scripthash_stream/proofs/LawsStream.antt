@@ -1,21 +1,17 @@
 -- The stream of a list: its length, more numbers behind it, and that it reads as the list. Assumes nothing.
-use Prim.Native.Nat.{ℕ, zero, suc, ◌+◌, ◌-◌, ◌^◌, ◌≤◌, ◌<◌}
-use mathlib.Core.Bool.{Bool, true, false, ◌&&◌}
+use Prim.Native.Nat.{ℕ, ◌+◌, ◌-◌, ◌^◌, ◌≤◌, ◌<◌}
 use mathlib.Core.List.{List, [], ◌∷◌, ◌++◌, append_assoc, append-nil}
 use mathlib.Core.Path.{◌≡◌, refl, sym, ap, ◌∙◌}
-use native.Mathlib.Nat.{add_assoc, add-zero, zero-add}
+use native.Mathlib.Nat.{add_assoc, zero-add}
 use native.Mathlib.Numerals.{add-one}
 use native.Mathlib.Omega.{arith}
-use borrow.Author.Tests.{lt-leb, leb-false, eqb-false, ne_eqb}
-use lib.Dec.{leb, eqb}
 use lib.ListN.{length, drop, get_or, length-append}
 use lib.Seq.{drop_at, drop-cons}
-use Rattle.error.specs.Refusal.{Answer, accepted, refuse_if, offered_first_zero, offered_bit63, offered_not_rising}
-use Rattle.error.proofs.LawsAnswer.{passed}
-use Rattle.compact.specs.Uleb128.{Reading, read_uleb, uleb_len, shortest}
-use Rattle.compact.proofs.LawsLength.{length_shortest, len_at_most}
+use Rattle.error.specs.Refusal.{accepted}
+use Rattle.compact.specs.Uleb128.{read_uleb, uleb_len, shortest}
+use Rattle.compact.proofs.LawsLength.{length_shortest}
 use Rattle.compact.proofs.LawsRead.{read_shortest}
-use Rattle.scripthash_stream.specs.Stream.{Rising, last_from, stream_from, stream_len_from, judged, next_number, stored_number, Scan}
+use Rattle.scripthash_stream.specs.Stream.{Rising, last_from, stream_from, stream_len_from, next_number}
 use Rattle.scripthash_stream.specs.Stream.{scan_from}
 use Rattle.scripthash_stream.proofs.LawsScan.{stored_sum, next_is, scan_cons}
 

@@ -1,5 +1,5 @@
 -- Streams of rising numbers: the first number, then the differences, each as a ULEB128 form. A number before the first counts as 0.
-use Rattle.std.specs.Prelude.{ℕ, zero, suc, ◌+◌, ◌-◌, ◌^◌, ◌<◌, cond, ◌&&◌, List, [], ◌∷◌, ◌++◌, leb, ltb, eqb, length, drop}
+use Rattle.std.specs.Prelude.{ℕ, zero, suc, ◌+◌, ◌-◌, ◌^◌, ◌<◌, cond, ◌&&◌, List, [], ◌∷◌, ◌++◌, leb, ltb, eqb, drop}
 use Rattle.error.specs.Refusal.{Answer, accepted, refused, refuse_if, and_then, offered_first_zero, offered_bit63, offered_not_rising, does_not_fit}
 use Rattle.error.specs.Refusal.{answered, value_or, list_too_short}
 use Rattle.error.specs.Refusal.{stored_first_zero, stored_difference_zero, stored_sum_overflow, stored_bit63}

@@ -1,8 +1,8 @@
 -- Words and scans: the words of whole forms, how many bytes those take, and the numbers that they scan as. Assumes nothing.
-use Prim.Native.Nat.{ℕ, zero, suc, ◌+◌, ◌-◌, ◌*◌, ◌^◌, ◌≤◌, ◌<◌}
-use mathlib.Core.Bool.{Bool, true, false, cond, not, false≢true}
-use mathlib.Core.List.{List, [], ◌∷◌, ◌++◌}
-use mathlib.Core.Logic.{◌⊎◌, ⊎_elim}
+use Prim.Native.Nat.{ℕ, zero, suc, ◌+◌, ◌-◌, ◌^◌, ◌≤◌, ◌<◌}
+use mathlib.Core.Bool.{Bool, true, false, cond, not}
+use mathlib.Core.List.{List, [], ◌∷◌}
+use mathlib.Core.Logic.{⊎_elim}
 use mathlib.Core.Path.{◌≡◌, refl, sym, ap, ◌∙◌}
 use native.Mathlib.Omega.{arith}
 use borrow.Author.Tests.{lt-leb, le-leb, le-ltb}
@@ -14,7 +14,7 @@ use Rattle.buffer.specs.LittleEndian.{AreBytes}
 use Rattle.buffer.proofs.LawsOrder.{lt_or_ge}
 use Rattle.compact.specs.Uleb128.{goes_on, is_form, form_at, value, overflows, read_form, Reading, read_uleb}
 use Rattle.compact.proofs.LawsRead.{read_accepted}
-use Rattle.scripthash_stream.specs.Stream.{Scan, scan_from, next_number, last_from}
+use Rattle.scripthash_stream.specs.Stream.{Scan, scan_from, next_number}
 use Rattle.scripthash_stream.proofs.LawsScan.{Step, scan_step, next_accepted, next_is, stored_sum, scan_cons}
 use Rattle.scripthash_words.specs.Words.{four_bytes, start_words, WholeForms, forms_len, has_end}
 use Rattle.scripthash_words.specs.Words.{value_in, values_in, AllEnded, AllAbove, running_from, sum_of}

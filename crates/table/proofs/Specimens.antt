@@ -7,7 +7,7 @@ use Rattle.scripthash_layout.specs.Head.{pack_head, unpack_head}
 use Rattle.scripthash_stream.specs.Stream.{stream_from, stored_number, next_number, scan_from, decode_stream}
 use Rattle.scripthash_slabs.specs.Slab.{slab_payload, decode_slab}
 use Rattle.scripthash_cutting.specs.Cutting.{fitting, first_part, greedy_parts, replace_last, ranges_from}
-use Rattle.table.specs.Table.{Specimens, Is, SlabOf, IsHead, in_aRow}
+use Rattle.table.specs.Table.{Specimens, in_aRow}
 
 pub specimens : Specimens
 unfolding refuse_if and_then part is_form value form_at overflows read_form read_uleb divided shortest pack_head unpack_head stream_from

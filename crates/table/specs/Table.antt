@@ -1,11 +1,11 @@
 -- The specimens (FORMAT, Worked examples), as equations about definitions. Bytes in decimal: 128 is 80, 167 is A7, 185 is B9, 255 is FF.
 use Rattle.std.specs.Prelude.{ℕ, zero, suc, ◌+◌, ◌-◌, List, [], ◌∷◌, ◌++◌, ◌≡◌, length, replicate}
-use Rattle.error.specs.Refusal.{Answer, accepted, refused}
-use Rattle.compact.specs.Uleb128.{Reading, shortest, read_uleb}
+use Rattle.error.specs.Refusal.{accepted, refused}
+use Rattle.compact.specs.Uleb128.{shortest, read_uleb}
 use Rattle.scripthash_layout.specs.Head.{pack_head, unpack_head}
 use Rattle.scripthash_layout.specs.declared.head.ShHeadValue.{ShHeadValue}
 use Rattle.scripthash_layout.specs.declared.head.ShHeadValue.TheVariants.{Slab}
-use Rattle.scripthash_stream.specs.Stream.{Scan, scan}
+use Rattle.scripthash_stream.specs.Stream.{scan}
 use Rattle.scripthash_slabs.specs.Slab.{slab_payload, decode_slab}
 use Rattle.scripthash_cutting.specs.Cutting.{cutting, range_of, ranges_from}
 

@@ -1,6 +1,5 @@
 -- `ends_shortest` meets its contract. Assumes nothing.
 use native.Mathlib.Omega.{arith}
-use mathlib.Core.Path.{◌≡◌}
 use borrow.Author.Rules.{rules}
 use borrow.Author.Tests.{lt-ltb, le-ltb}
 use Rattle.compact.proofs.ends_shortest.Statement.{statement}

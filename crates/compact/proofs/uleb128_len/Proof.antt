@@ -1,8 +1,8 @@
 -- `uleb128_len` meets its contract. With z leading zeros a number lies between 2 ^ (64 - z) / 2 and 2 ^ (64 - z) - 1. At both ends the
 -- length is what the code computes of z, which one test shows for all z, and between them the length does not fall. Assumes nothing.
-use Prim.Native.Nat.{ℕ, ◌+◌, ◌-◌, ◌*◌, ◌/◌, ◌^◌, ◌≤◌, ◌<◌}
+use Prim.Native.Nat.{ℕ, ◌-◌, ◌*◌, ◌/◌, ◌^◌}
 use mathlib.Core.Bool.{Bool, ◌&&◌}
-use mathlib.Core.Path.{◌≡◌, sym, ◌∙◌}
+use mathlib.Core.Path.{◌≡◌, sym}
 use native.Mathlib.Nat.{le_antisymm, le_trans, le_of_eq}
 use native.Mathlib.Omega.{arith}
 use borrow.Author.Rules.{rules}

@@ -5,7 +5,7 @@ use mathlib.Core.List.{List}
 use mathlib.Core.Path.{◌≡◌, sym, ap, ◌∙◌}
 use lib.ListN.{length}
 use Rattle.book_desks.specs.Desks.{list_bad}
-use Rattle.book_space.specs.Space.{space, shape_broken}
+use Rattle.book_space.specs.Space.{shape_broken}
 use Rattle.book.specs.Book.{Book}
 use Rattle.book.specs.Answers.{book_of}
 use Rattle.book.proofs.LawsKey.{number_shape, number_counts, number_list, number_none}

@@ -1,7 +1,7 @@
 -- `append_known` meets its contract: the number by itself, the head word, and then the key's place. Assumes nothing.
 use Prim.Native.Nat.{◌^◌, ◌<◌}
 use mathlib.Core.Bool.{true}
-use mathlib.Core.Path.{◌≡◌, sym, ap, ◌∙◌}
+use mathlib.Core.Path.{sym, ap, ◌∙◌}
 use borrow.Author.Rules.{rules}
 use lib.ListN.{length}
 use Rattle.error.specs.Refusal.{accepted}

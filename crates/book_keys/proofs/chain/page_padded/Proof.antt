@@ -1,12 +1,10 @@
 -- `page_padded` meets its contract: the bytes from where the stream starts are counted. Assumes nothing.
-use Prim.Native.Nat.{ℕ, ◌≤◌}
-use mathlib.Core.Path.{◌≡◌, sym, ap, ◌∙◌}
-use native.Mathlib.Omega.{arith}
+use Prim.Native.Nat.{ℕ}
+use mathlib.Core.Path.{sym, ap, ◌∙◌}
 use borrow.Author.Rules.{rules}
 use borrow.Author.Tests.{not-true, not-false}
-use lib.ListN.{length, drop}
+use lib.ListN.{drop}
 use Rattle.buffer.proofs.LawsBytes.{part_to_end}
-use Rattle.scripthash_fields.proofs.LawsFields.{stream_off_within}
 use Rattle.book_keys.proofs.LawsPages.{field_read, page_counted}
 use Rattle.book_keys.proofs.LawsWalk.{asked_yes, asked_no}
 use Rattle.book_keys.proofs.chain.page_padded.Statement.{statement}

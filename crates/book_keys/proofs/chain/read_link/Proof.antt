@@ -1,5 +1,5 @@
 -- `read_link` meets its contract: the scan decides, then the last number, and the first. Assumes nothing.
-use Prim.Native.Nat.{ℕ, ◌-◌, ◌≤◌}
+use Prim.Native.Nat.{ℕ, ◌≤◌}
 use mathlib.Core.Bool.{Bool, true}
 use mathlib.Core.List.{List}
 use mathlib.Core.Path.{◌≡◌, refl, sym, ap, ◌∙◌}
@@ -7,10 +7,10 @@ use native.Mathlib.Omega.{arith}
 use borrow.Author.Rules.{rules}
 use borrow.Author.Tests.{not-true, not-false}
 use lib.ListN.{length, drop, get_or}
-use Rattle.error.specs.Refusal.{accepted, refused, answered}
+use Rattle.error.specs.Refusal.{accepted, answered}
 use Rattle.error.proofs.LawsAnswer.{refused≢accepted, accepted_inj, was_accepted, was_refused, answered_yes}
 use Rattle.buffer.proofs.LawsBytes.{part_to_end}
-use Rattle.compact.specs.Uleb128.{Reading, read_uleb, NumberRead, number_read}
+use Rattle.compact.specs.Uleb128.{read_uleb, NumberRead, number_read}
 use Rattle.compact.specs.Answers.{read_uleb_answer}
 use Rattle.scripthash_stream.specs.Stream.{Scan, last_from, End, end_from}
 use Rattle.scripthash_stream.specs.Answers.{scan_answer}

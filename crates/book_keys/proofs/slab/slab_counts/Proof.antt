@@ -1,6 +1,6 @@
 -- `slab_counts` meets its contract: the bytes behind the first two are counted. Assumes nothing.
 use Prim.Native.Nat.{ℕ}
-use mathlib.Core.Path.{◌≡◌, ap}
+use mathlib.Core.Path.{ap}
 use borrow.Author.Rules.{rules}
 use Rattle.error.specs.Refusal.{accepted}
 use Rattle.buffer.proofs.LawsBytes.{part_to_end}

@@ -1,11 +1,9 @@
 -- `pop_end` meets its contract. Assumes nothing.
-use Prim.Native.Nat.{◌≤◌, ◌<◌}
-use mathlib.Core.Path.{◌≡◌, sym, ◌∙◌}
-use native.Mathlib.Nat.{min-eq_left, min-eq_right}
+use mathlib.Core.Path.{◌≡◌}
 use native.Mathlib.Omega.{arith}
 use borrow.Author.Tests.{eq-eqb, ne_eqb}
 use Rattle.scripthash_layout.specs.Sizes.{page_class}
-use Rattle.book_limits.specs.Limits.{slabs_end, pop_end}
+use Rattle.book_limits.specs.Limits.{pop_end}
 use Rattle.book_space.proofs.take.pop_end.Statement.{statement}
 use Rattle.book_space.proofs.take.pop_end.Tie as tie
 

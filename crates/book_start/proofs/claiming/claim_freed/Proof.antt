@@ -3,18 +3,17 @@
 use Prim.Native.Nat.{ℕ, ◌+◌, ◌-◌, ◌*◌, ◌/◌, ◌≤◌, ◌<◌}
 use mathlib.Core.Bool.{true}
 use mathlib.Core.List.{List, []}
-use mathlib.Core.Path.{◌≡◌, refl, sym, ap, ◌∙◌}
+use mathlib.Core.Path.{◌≡◌, refl, sym, ◌∙◌}
 use native.Mathlib.Omega.{arith}
 use borrow.Author.Rules.{rules}
 use borrow.Author.Tests.{not-true, not-false}
 use lib.ListN.{length}
 use Rattle.scripthash_free.specs.FreeList.{Block, is_block}
 use Rattle.book_space.specs.Space.{Space, space}
-use Rattle.book_start.specs.Start.{block, claim_freed}
+use Rattle.book_start.specs.Start.{claim_freed}
 use Rattle.book_start.specs.Units.{units_of, Marked}
 use Rattle.book_start.proofs.LawsBits.{units_long}
-use Rattle.book_start.proofs.LawsUnits.{length_claim}
-use Rattle.book_start.proofs.LawsShown.{block_fits, shown_long, link_inside, FreedGo, list_few, list_end, list_long, list_strays}
+use Rattle.book_start.proofs.LawsShown.{shown_long, link_inside, FreedGo, list_few, list_end, list_long, list_strays}
 use Rattle.book_start.proofs.LawsShown.{list_shared, list_turn}
 use Rattle.book_start.proofs.claiming.claim_freed.Statement.{statement}
 use Rattle.book_start.proofs.claiming.claim_freed.Tie as tie

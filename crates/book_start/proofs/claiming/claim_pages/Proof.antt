@@ -2,7 +2,7 @@
 -- give. Assumes nothing.
 use Prim.Native.Nat.{ℕ, ◌-◌, ◌*◌, ◌≤◌, ◌<◌}
 use mathlib.Core.List.{List}
-use mathlib.Core.Path.{◌≡◌, refl, sym, ap, subst, ◌∙◌}
+use mathlib.Core.Path.{◌≡◌, refl, sym, subst, ◌∙◌}
 use native.Mathlib.Omega.{arith}
 use borrow.Author.Rules.{rules}
 use borrow.Author.Tests.{not-true, not-false}
@@ -12,11 +12,10 @@ use Rattle.scripthash_free.specs.FreeList.{Block}
 use Rattle.scripthash_free.proofs.LawsBlock.{block_stands}
 use Rattle.book_keys.specs.Keys.{page_blocks, body_ground, Ground}
 use Rattle.book_keys.specs.Steps.{PagesLeft}
-use Rattle.book_start.specs.Start.{block, claim_all}
+use Rattle.book_start.specs.Start.{claim_all}
 use Rattle.book_start.specs.Units.{units_of, Marked}
 use Rattle.book_start.proofs.LawsBits.{units_long}
-use Rattle.book_start.proofs.LawsUnits.{length_claim}
-use Rattle.book_start.proofs.LawsShown.{block_fits, shown_long, PageTurn, page_turn, PagesGo, pages_turn, pages_shared}
+use Rattle.book_start.proofs.LawsShown.{shown_long, PageTurn, page_turn, PagesGo, pages_turn, pages_shared}
 use Rattle.book_start.proofs.LawsShown.{pages_few, pages_end_lem}
 use Rattle.book_start.proofs.claiming.claim_pages.Statement.{statement}
 use Rattle.book_start.proofs.claiming.claim_pages.Tie as tie

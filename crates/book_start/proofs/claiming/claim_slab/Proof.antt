@@ -4,7 +4,6 @@ use mathlib.Core.Path.{◌≡◌, sym, ap, ◌∙◌}
 use native.Mathlib.Omega.{arith}
 use borrow.Author.Rules.{rules}
 use borrow.Author.Tests.{not-true, not-false}
-use lib.ListN.{length}
 use Rattle.error.specs.Refusal.{accepted}
 use Rattle.error.proofs.LawsAnswer.{was_accepted, was_refused}
 use Rattle.scripthash_layout.specs.declared.head.ShHeadValue.TheVariants.{Slab}
@@ -17,7 +16,7 @@ use Rattle.book_keys.proofs.LawsSlab.{SoundSlab, slab_sound}
 use Rattle.book_keys.proofs.LawsContent.{content_slab, content_no_slab}
 use Rattle.book_start.specs.Start.{block, claim_all, claim_content}
 use Rattle.book_start.specs.Units.{units_of}
-use Rattle.book_start.proofs.LawsShown.{content_unfit, content_fit, claims_unfit, one_claimed, one_shared, block_fits, shown_long}
+use Rattle.book_start.proofs.LawsShown.{content_unfit, content_fit, claims_unfit, one_claimed, one_shared, shown_long}
 use Rattle.book_start.proofs.claiming.claim_slab.Statement.{statement}
 use Rattle.book_start.proofs.claiming.claim_slab.Tie as tie
 

@@ -1,5 +1,4 @@
 -- `with_bit` meets its contract: the bit is there, or its weight is added. Assumes nothing.
-use mathlib.Core.Path.{◌≡◌}
 use native.Mathlib.Omega.{arith}
 use borrow.Author.Rules.{rules}
 use Rattle.book_start.proofs.LawsBits.{bit_set, bit_stays, bit_fits, weight_is}

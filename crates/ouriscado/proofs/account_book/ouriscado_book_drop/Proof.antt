@@ -1,12 +1,12 @@
 -- `ouriscado_book_drop` judges the call, and hands out what the core's drop does for the key's desk. Assumes nothing.
 use Prim.Native.Nat.{ℕ}
 use mathlib.Core.List.{List}
-use mathlib.Core.Path.{◌≡◌, refl}
-use Rattle.error.specs.Refusal.{Answer, refused, answered}
+use mathlib.Core.Path.{refl}
+use Rattle.error.specs.Refusal.{Answer, answered}
 use Rattle.book_rules.specs.Outcomes.{Dropped, book_after}
 use Rattle.book.specs.Book.{Book, Outcome}
 use Rattle.book.specs.Answers.{book_of}
-use Rattle.book_drop.specs.Drops.{drops, drops_with}
+use Rattle.book_drop.specs.Drops.{drops}
 use Rattle.ouriscado.proofs.LawsBook.{turned_back, made_for}
 use borrow.Author.Rules.{rules}
 use Rattle.ouriscado.proofs.account_book.ouriscado_book_drop.Statement.{statement}

@@ -3,7 +3,7 @@ use Prim.Native.Nat.{ℕ, ◌-◌}
 use mathlib.Core.List.{List}
 use mathlib.Core.Path.{◌≡◌, ◌∙◌, ap}
 use lib.ListN.{length, take, drop}
-use Rattle.error.specs.Refusal.{Answer, refusal_of, value_or}
+use Rattle.error.specs.Refusal.{Answer, refusal_of}
 use Rattle.error.proofs.LawsOut.{number_answered, value_same}
 use Rattle.buffer.proofs.LawsBytes.{part_to_end}
 use Rattle.book_rules.specs.Outcomes.{Loaded, answer_of, book_after}

@@ -1,8 +1,8 @@
 -- `ouriscado_book_extend` judges the call, and hands out what the core's extend does for the key's desk. Assumes nothing.
 use Prim.Native.Nat.{ℕ}
 use mathlib.Core.List.{List}
-use mathlib.Core.Path.{◌≡◌, refl}
-use Rattle.error.specs.Refusal.{Answer, refused, answered}
+use mathlib.Core.Path.{refl}
+use Rattle.error.specs.Refusal.{Answer, answered}
 use Rattle.book_rules.specs.Outcomes.{book_after}
 use Rattle.book.specs.Book.{Book, Outcome}
 use Rattle.book.specs.Answers.{book_of}

@@ -1,6 +1,5 @@
 -- `put_head` hands out each number of a head value, or nothing but the refusal. Assumes nothing.
 use mathlib.Core.Path.{◌∙◌, ap}
-use Rattle.error.specs.Refusal.{accepted, refused}
 use Rattle.error.proofs.LawsOut.{number_accepted, number_refused, value_accepted, value_refused}
 use Rattle.scripthash_layout.specs.AnswersHead.{unpack_answer}
 use Rattle.ouriscado.specs.OutHead.{kind_out, class_out, used_out, place_out}

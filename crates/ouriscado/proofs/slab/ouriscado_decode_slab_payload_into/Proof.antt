@@ -1,6 +1,5 @@
 -- `ouriscado_decode_slab_payload_into` hands out what `decode_slab_payload_into` answers. Assumes nothing.
 use mathlib.Core.Path.{sym, ◌∙◌, ap}
-use lib.ListN.{length}
 use Rattle.error.specs.Refusal.{refusal_of}
 use Rattle.error.proofs.LawsOut.{number_accepted, number_answered, value_accepted, value_answered, value_refused}
 use Rattle.scripthash_slabs.specs.Slab.{slab_list_of}

@@ -1,5 +1,4 @@
 -- `last_form` meets its contract: each byte that is read goes on or is the form's last. Assumes nothing.
-use Prim.Native.Nat.{◌+◌}
 use mathlib.Core.Path.{refl}
 use native.Mathlib.Nat.{add-zero}
 use native.Mathlib.Omega.{arith}

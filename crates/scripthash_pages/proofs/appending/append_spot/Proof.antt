@@ -15,7 +15,7 @@ use Rattle.scripthash_stream.specs.Answers.{scan_answer}
 use Rattle.scripthash_stream.specs.declared.stream.ScanStream.{ScanStream}
 use Rattle.scripthash_fields.specs.Page.{stream_off}
 use Rattle.scripthash_pages.specs.Entries.{page_scan, last_of}
-use Rattle.scripthash_pages.proofs.LawsAppend.{Ends, scan_ends, spot_length, spot_zero, spot_flag, spot_stop, spot_low, spot_high}
+use Rattle.scripthash_pages.proofs.LawsAppend.{scan_ends, spot_length, spot_zero, spot_flag, spot_stop, spot_low, spot_high}
 use Rattle.scripthash_pages.proofs.LawsAppend.{spot_full, spot_room}
 use Rattle.scripthash_pages.proofs.appending.append_spot.Statement.{statement}
 use Rattle.scripthash_pages.proofs.appending.append_spot.Tie as tie

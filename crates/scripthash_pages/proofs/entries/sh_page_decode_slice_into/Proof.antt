@@ -9,8 +9,8 @@ use Rattle.error.proofs.LawsAnswer.{was_accepted, was_refused, answered_yes, ans
 use Rattle.scripthash_layout.specs.Sizes.{page_size}
 use Rattle.scripthash_stream.specs.Stream.{Scan}
 use Rattle.scripthash_fields.specs.Page.{next_off}
-use Rattle.scripthash_pages.specs.Entries.{page_entries, page_padded, entries_read_of, page_read_of}
-use Rattle.scripthash_pages.specs.EntryAnswers.{EntriesRead, PageRead, entries_answer}
+use Rattle.scripthash_pages.specs.Entries.{page_entries, entries_read_of, page_read_of}
+use Rattle.scripthash_pages.specs.EntryAnswers.{EntriesRead, entries_answer}
 use Rattle.scripthash_pages.specs.declared.answers.PageEntries.{PageEntries}
 use Rattle.scripthash_pages.proofs.LawsEntries.{entries_long, read_of}
 use Rattle.scripthash_pages.proofs.entries.sh_page_decode_slice_into.Statement.{statement}

@@ -16,7 +16,7 @@ use Rattle.scripthash_stream.proofs.LawsDecode.{decode_accepted, after_refused}
 use Rattle.scripthash_pages.specs.Entries.{StreamAt, stream_place, page_entries, page_padded, entries_read_of}
 use Rattle.scripthash_pages.specs.Answers.{stream_place_answer}
 use Rattle.scripthash_pages.specs.declared.entries.StreamPlace.{StreamPlace}
-use Rattle.scripthash_pages.proofs.LawsEntries.{Placed, place_accepted, entries_no, entries_yes, padded_at}
+use Rattle.scripthash_pages.proofs.LawsEntries.{place_accepted, entries_no, entries_yes, padded_at}
 use Rattle.scripthash_pages.proofs.entries.sh_page_entries_into.Statement.{statement}
 use Rattle.scripthash_pages.proofs.entries.sh_page_entries_into.Tie as tie
 

@@ -1,5 +1,5 @@
 -- `sh_page_last_fk` meets its contract: it is the last number of the scan's end. Assumes nothing.
-use mathlib.Core.Path.{◌≡◌, sym, ap, ◌∙◌}
+use mathlib.Core.Path.{sym, ap, ◌∙◌}
 use borrow.Author.Rules.{rules}
 use Rattle.error.specs.Refusal.{accepted, refused, refusal_of}
 use Rattle.error.proofs.LawsAnswer.{was_accepted, was_refused, answered_yes, answered_no}

@@ -12,7 +12,7 @@ use Rattle.scripthash_stream.specs.Stream.{end_from, scan}
 use Rattle.scripthash_pages.specs.Entries.{StreamAt, stream_place, page_scan}
 use Rattle.scripthash_pages.specs.Answers.{stream_place_answer}
 use Rattle.scripthash_pages.specs.declared.entries.StreamPlace.{StreamPlace}
-use Rattle.scripthash_pages.proofs.LawsEntries.{Placed, place_accepted, scan_no, scan_yes}
+use Rattle.scripthash_pages.proofs.LawsEntries.{place_accepted, scan_no, scan_yes}
 use Rattle.scripthash_pages.proofs.entries.sh_page_stream_tail.Statement.{statement}
 use Rattle.scripthash_pages.proofs.entries.sh_page_stream_tail.Tie as tie
 

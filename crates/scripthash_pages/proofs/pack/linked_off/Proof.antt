@@ -1,5 +1,4 @@
 -- `linked_off` meets its contract: the next page's offset decides. Assumes nothing.
-use mathlib.Core.Bool.{Bool}
 use borrow.Author.Tests.{eq-eqb, ne_eqb}
 use Rattle.scripthash_pages.proofs.pack.linked_off.Statement.{statement}
 use Rattle.scripthash_pages.proofs.pack.linked_off.Tie as tie

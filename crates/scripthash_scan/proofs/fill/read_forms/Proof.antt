@@ -1,5 +1,4 @@
 -- `read_forms` meets its contract: by words, or else form by form. Assumes nothing.
-use Prim.Native.Nat.{◌≤◌}
 use mathlib.Core.Path.{◌≡◌}
 use native.Mathlib.Omega.{arith}
 use borrow.Author.Rules.{rules}

@@ -1,6 +1,6 @@
 -- `one_byte_forms` meets its contract. Invariant: each byte so far lies between the least and the greatest. Assumes nothing.
 use Prim.Native.Nat.{ℕ, ◌+◌, ◌-◌, ◌≤◌, ◌<◌}
-use mathlib.Core.Bool.{true, false≢true}
+use mathlib.Core.Bool.{false≢true}
 use mathlib.Core.List.{List}
 use mathlib.Core.Logic.{⊎_elim}
 use mathlib.Core.Path.{◌≡◌}
@@ -9,7 +9,6 @@ use borrow.Author.Rules.{rules}
 use borrow.Author.Tests.{ltb-true}
 use lib.ListN.{length, get_or}
 use Rattle.buffer.proofs.LawsOrder.{lt_or_ge}
-use Rattle.scripthash_forms.specs.Quick.{OneByteForms}
 use Rattle.scripthash_scan.proofs.quick.one_byte_forms.Statement.{statement}
 use Rattle.scripthash_scan.proofs.quick.one_byte_forms.Tie as tie
 

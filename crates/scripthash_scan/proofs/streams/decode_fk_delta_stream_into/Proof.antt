@@ -1,7 +1,6 @@
 -- `decode_fk_delta_stream_into` meets its contract: the stream is read, and then its padded numbers are counted over the bytes taken.
 -- Assumes nothing.
 use Prim.Native.Nat.{ℕ, ◌≤◌}
-use mathlib.Core.List.{List}
 use mathlib.Core.Path.{◌≡◌, sym, ap, ◌∙◌}
 use native.Mathlib.Omega.{arith}
 use borrow.Author.Rules.{rules}

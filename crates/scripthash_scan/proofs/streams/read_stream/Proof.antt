@@ -1,5 +1,4 @@
 -- `read_stream` meets its contract: the stream is scanned first; or the quick reading is the whole one, or left the list. Assumes nothing.
-use mathlib.Core.Path.{◌≡◌, ap}
 use native.Mathlib.Omega.{arith}
 use borrow.Author.Rules.{rules}
 use Rattle.scripthash_forms.proofs.LawsTries.{quick_left, quick_right}

@@ -9,10 +9,9 @@ use lib.ListN.{length, take, drop, length-take, length-drop}
 use Rattle.error.specs.Refusal.{Answer, accepted, refused, refusal_of, answered}
 use Rattle.error.proofs.LawsAnswer.{answered_yes, answered_no, was_accepted, was_refused}
 use Rattle.buffer.proofs.LawsBytes.{part_to_end}
-use Rattle.scripthash_stream.specs.Stream.{Scan, scan, StreamTold, stream_told, padded_in, decode_stream, after_decode}
-use Rattle.scripthash_slabs.specs.Slab.{SlabList, slab_used, slab_padded, slab_list_of, decode_slab}
+use Rattle.scripthash_stream.specs.Stream.{Scan, StreamTold, stream_told, padded_in, decode_stream, after_decode}
+use Rattle.scripthash_slabs.specs.Slab.{slab_padded, slab_list_of, decode_slab}
 use Rattle.scripthash_stream.specs.Answers.{stream_read_answer}
-use Rattle.scripthash_slabs.specs.Answers.{slab_answer}
 use Rattle.scripthash_stream.specs.declared.stream.StreamRead.{StreamRead}
 use Rattle.scripthash_stream.proofs.LawsScan.{scan_accepted}
 use Rattle.scripthash_stream.proofs.LawsDecode.{decode_accepted, after_refused}

@@ -1,5 +1,5 @@
 -- `encode_fk_delta_stream_into` meets its contract: what judging and measuring answers decides, then the room. Assumes nothing.
-use Prim.Native.Nat.{ℕ, ◌^◌, ◌≤◌}
+use Prim.Native.Nat.{ℕ, ◌^◌}
 use mathlib.Core.List.{List}
 use mathlib.Core.Path.{◌≡◌, sym, ap, ◌∙◌}
 use native.Mathlib.Omega.{arith}

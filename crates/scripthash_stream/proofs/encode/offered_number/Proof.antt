@@ -1,6 +1,6 @@
 -- `offered_number` meets its contract: behind a number below 2 ^ 63 one that is no larger has bit 63 clear, so the tests may come in the
 -- code's order. Assumes nothing.
-use Prim.Native.Nat.{ℕ, ◌-◌, ◌^◌}
+use Prim.Native.Nat.{◌-◌, ◌^◌}
 use mathlib.Core.Path.{◌≡◌, sym, ap, ◌∙◌}
 use mathlib.Core.List.{[], ◌∷◌}
 use native.Mathlib.Omega.{arith}

@@ -1,7 +1,7 @@
 -- `put_fks` meets its contract. Invariant: the numbers that are left rise, their stream fits from the offset on, and written there it makes
 -- the destination what the contract says. Assumes nothing.
 use Prim.Native.Nat.{ℕ, ◌+◌, ◌-◌, ◌^◌, ◌≤◌, ◌<◌}
-use mathlib.Core.List.{List, [], ◌∷◌, ◌++◌}
+use mathlib.Core.List.{List, [], ◌∷◌}
 use mathlib.Core.Path.{◌≡◌, refl, sym, ap, ◌∙◌}
 use native.Mathlib.Omega.{arith}
 use borrow.Author.Rules.{rules}
@@ -11,7 +11,7 @@ use Rattle.buffer.proofs.LawsBytes.{overwrite_nil, length_overwrite}
 use Rattle.buffer.proofs.LawsOverwrite.{overwrite_adjoin}
 use Rattle.compact.specs.Uleb128.{uleb_len, shortest}
 use Rattle.compact.proofs.LawsLength.{length_shortest}
-use Rattle.scripthash_stream.specs.Stream.{Rising, stream_from, stream, stream_len_from, stream_len}
+use Rattle.scripthash_stream.specs.Stream.{Rising, stream_from, stream, stream_len_from}
 use Rattle.scripthash_stream.proofs.LawsStream.{front}
 use Rattle.scripthash_stream.proofs.encode.put_fks.Statement.{statement}
 use Rattle.scripthash_stream.proofs.encode.put_fks.Tie as tie

@@ -1,5 +1,5 @@
 -- `count_padded` meets its contract. Assumes nothing.
-use mathlib.Core.Path.{◌≡◌, sym, ◌∙◌}
+use mathlib.Core.Path.{sym, ◌∙◌}
 use native.Mathlib.Omega.{arith}
 use borrow.Author.Rules.{rules}
 use Rattle.scripthash_stream.proofs.LawsPadded.{padded_bytes, padded_counted}

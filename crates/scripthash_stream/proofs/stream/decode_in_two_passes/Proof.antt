@@ -1,11 +1,10 @@
 -- `decode_in_two_passes` meets its contract: what the scan answers decides, then the room in the list. Assumes nothing.
-use Prim.Native.Nat.{ℕ}
 use mathlib.Core.Path.{◌≡◌, sym, ap, ◌∙◌}
 use native.Mathlib.Omega.{arith}
 use lib.ListN.{length}
 use Rattle.error.specs.Refusal.{refused, accepted, refusal_of}
 use Rattle.error.proofs.LawsAnswer.{was_accepted, was_refused, answered_yes, answered_no}
-use Rattle.scripthash_stream.specs.Stream.{Scan, End, end_from, scan, decode_stream}
+use Rattle.scripthash_stream.specs.Stream.{Scan, End, end_from, scan}
 use Rattle.scripthash_stream.specs.Answers.{scan_answer}
 use Rattle.scripthash_stream.specs.declared.stream.ScanStream.{ScanStream}
 use Rattle.scripthash_stream.proofs.LawsDecode.{decode_refused, decode_short, decode_fits, after_refused, after_accepted}

@@ -1,5 +1,4 @@
 -- `fill_part` meets its contract. Assumes nothing.
-use Prim.Native.Nat.{◌+◌, ◌-◌}
 use mathlib.Core.Path.{◌≡◌, refl, ◌∙◌}
 use native.Mathlib.Omega.{arith}
 use Rattle.scripthash_words.proofs.LawsFilling.{filling_part}

@@ -1,11 +1,6 @@
 -- `keep_last` meets its contract. Assumes nothing.
-use Prim.Native.Nat.{ℕ, ◌+◌, ◌-◌, ◌≤◌, ◌<◌}
-use mathlib.Core.List.{List}
-use mathlib.Core.Path.{◌≡◌, refl, sym, ap, ◌∙◌}
 use native.Mathlib.Omega.{arith}
 use borrow.Author.Rules.{rules}
-use lib.ListN.{length, length-set, set, drop}
-use Rattle.scripthash_words.specs.Words.{four_bytes, Found}
 use Rattle.scripthash_words.proofs.LawsStarts.{found_next}
 use Rattle.scripthash_words.proofs.starts.keep_last.Statement.{statement}
 use Rattle.scripthash_words.proofs.starts.keep_last.Tie as tie

@@ -1,13 +1,13 @@
 -- `keep_word` meets its contract. Assumes nothing.
-use Prim.Native.Nat.{ℕ, ◌+◌, ◌-◌, ◌≤◌, ◌<◌}
+use Prim.Native.Nat.{ℕ}
 use mathlib.Core.List.{List}
-use mathlib.Core.Path.{◌≡◌, refl, sym, ap, ◌∙◌}
+use mathlib.Core.Path.{◌≡◌, refl, ◌∙◌}
 use native.Mathlib.Omega.{arith}
 use borrow.Author.Rules.{rules}
-use lib.ListN.{length, length-set, set, drop}
+use lib.ListN.{drop}
 use Rattle.buffer.specs.Bytes.{part}
 use Rattle.buffer.specs.LittleEndian.{little_endian}
-use Rattle.scripthash_words.specs.Words.{four_bytes, Found}
+use Rattle.scripthash_words.specs.Words.{four_bytes}
 use Rattle.scripthash_words.proofs.LawsStarts.{found_next}
 use Rattle.scripthash_words.proofs.starts.keep_word.Statement.{statement}
 use Rattle.scripthash_words.proofs.starts.keep_word.Tie as tie

@@ -1,5 +1,4 @@
 -- `unended` meets its contract. Assumes nothing.
-use mathlib.Core.Path.{◌≡◌}
 use native.Mathlib.Omega.{arith}
 use borrow.Author.Rules.{rules}
 use Rattle.scripthash_words.proofs.LawsValues.{some_end}
