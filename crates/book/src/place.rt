@@ -13,7 +13,7 @@ use scripthash_slabs::SlabClass;
 use scripthash_stream::StreamBytes;
 
 // What placing a list answers: its place, or a refusal.
-#[derive(Drop)]
+#[derive(Clone, Copy)]
 pub enum PlaceList {
     At(ShHeadValue),
     Refused(Refusal),

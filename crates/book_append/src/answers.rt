@@ -7,14 +7,14 @@ use error::Refusal;
 use scripthash_layout::ShHeadValue;
 
 // What an accepted append tells: the key's new place, and the records rewritten by a move, else 0.
-#[derive(Drop)]
+#[derive(Clone, Copy)]
 pub struct AppendedTo {
     pub place: ShHeadValue,
     pub rewritten: u64,
 }
 
 // What an append answers.
-#[derive(Drop)]
+#[derive(Clone, Copy)]
 pub enum BookAppend {
     Appended(AppendedTo),
     Refused(Refusal),

@@ -33,9 +33,9 @@ pub fn accept_append(
     rewritten: u64,
 ) -> BookAppend
     requires { key < length heads.old }
-    ensures { (b : Book) (s : Space) (counts : List ℕ) → b.heads ≡ heads.entry.now
+    ensures { (b : Book) (s : Space) (counts : List ℕ) → b.heads ≡ heads.old
         → Does (accepted (appending key place rewritten s counts b)) b
-        (record { heads = heads.exit.now; space = s; counts = counts }) (append_answer result) }
+        (record { heads = heads.new; space = s; counts = counts }) (append_answer result) }
 {
     put_head(heads, key, place);
     BookAppend::Appended(AppendedTo { place, rewritten })

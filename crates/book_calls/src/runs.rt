@@ -11,7 +11,7 @@ use error::Refusal;
 const NO_CEILING: u64 = 18446744073709551615;
 
 // What running calls answers.
-#[derive(Drop)]
+#[derive(Clone, Copy)]
 pub enum RunCalls {
     // All were run, refused ones too, and the answers have so many words.
     Ran(usize),

@@ -19,7 +19,7 @@ pub const DROP: u64 = 3;
 pub const LOAD_TIGHT: u64 = 4;
 
 // Where the call behind one begins.
-#[derive(Drop)]
+#[derive(Clone, Copy)]
 pub enum NextCall {
     At(usize),
     // No call begins here.
@@ -27,7 +27,7 @@ pub enum NextCall {
 }
 
 // What room is left for answers.
-#[derive(Drop)]
+#[derive(Clone, Copy)]
 pub enum RoomLeft {
     Words(u64),
     // The answer may have more words than there is room for.

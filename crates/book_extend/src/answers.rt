@@ -8,7 +8,7 @@ use scripthash_layout::ShHeadValue;
 
 // What an extend tells: how many numbers were accepted, the refusal of the next one or 0, the key's place then, how many of the appends
 // moved the list, and how many records these rewrote.
-#[derive(Drop)]
+#[derive(Clone, Copy)]
 pub struct ExtendedBy {
     pub count: u64,
     pub refusal: Refusal,
@@ -18,7 +18,7 @@ pub struct ExtendedBy {
 }
 
 // What an extend answers.
-#[derive(Drop)]
+#[derive(Clone, Copy)]
 pub enum BookExtend {
     Extended(ExtendedBy),
     Refused(Refusal),
@@ -37,7 +37,7 @@ impl BookExtend {
 }
 
 // How far numbers went into the block where a key stands: the index of the first that didn't, or the key isn't sound.
-#[derive(Drop)]
+#[derive(Clone, Copy)]
 pub enum Reached {
     To(usize),
     Unsound,

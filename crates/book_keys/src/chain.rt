@@ -29,14 +29,14 @@ use scripthash_pages::sh_page_stream_tail;
 use scripthash_stream::ScanStream;
 
 // The header of a key's last page: the first page's offset, and how many numbers the key has, or 0, unknown; or 31.
-#[derive(Drop)]
+#[derive(Clone, Copy)]
 pub enum LastPage {
     Header { first: u64, creates: u32 },
     Refused(Refusal),
 }
 
 // What an append is told of a key's last page: the bytes that its stream takes, its last number, and its header; or 31.
-#[derive(Drop)]
+#[derive(Clone, Copy)]
 pub enum TailEnd {
     Tail {
         taken: usize,
@@ -49,7 +49,7 @@ pub enum TailEnd {
 
 // A page of a chain: how many numbers it has, its last number, whether it is LAST, the offset that its link names, and how many of the
 // numbers are padded, where that is asked for; or 31.
-#[derive(Drop)]
+#[derive(Clone, Copy)]
 pub enum LinkEnd {
     Page {
         count: u64,
@@ -62,7 +62,7 @@ pub enum LinkEnd {
 }
 
 // Pages walked: how many numbers they have, how many they are, and how many of the numbers are padded, where that is asked for; or 31.
-#[derive(Drop)]
+#[derive(Clone, Copy)]
 pub enum WalkEnd {
     Pages {
         length: u64,
@@ -74,7 +74,7 @@ pub enum WalkEnd {
 
 // A sound chain: its first page's offset, how many numbers it has, how many pages, and how many of the numbers are padded, where that is
 // asked for; or 31.
-#[derive(Drop)]
+#[derive(Clone, Copy)]
 pub enum ChainEnd {
     Chain {
         first: u64,
@@ -86,7 +86,7 @@ pub enum ChainEnd {
 }
 
 // A page whose numbers were written out: how many they are, and the offset of the page behind it; or 31 or 34.
-#[derive(Drop)]
+#[derive(Clone, Copy)]
 enum PageFill {
     Filled { count: usize, next: u64 },
     Refused(Refusal),

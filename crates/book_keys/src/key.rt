@@ -12,7 +12,7 @@ use error::Refusal;
 use scripthash_layout::{ShHeadValue, Unpacked};
 
 // How long a key's list is that was read, how many pages it has, and how many of its numbers are padded; or 31 or 34.
-#[derive(Drop)]
+#[derive(Clone, Copy)]
 pub enum KeyCounts {
     Counts {
         length: u64,

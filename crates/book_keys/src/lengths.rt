@@ -13,7 +13,7 @@ use scripthash_layout::{ShHeadValue, Unpacked};
 use scripthash_stream::ScanStream;
 
 // How many numbers a key has; or 31.
-#[derive(Drop)]
+#[derive(Clone, Copy)]
 pub enum KeyLength {
     Length(u64),
     Refused(Refusal),

@@ -29,9 +29,9 @@ const MOST_PAGES: usize = 163;
 // An accepted load gives the key its place, whatever the space and the counts are then.
 fn accept_load(heads: &mut [u64], key: usize, place: ShHeadValue, pages: u64) -> BookLoad
     requires { key < length heads.old }
-    ensures { (b : Book) (s : Space) (counts : List ℕ) → b.heads ≡ heads.entry.now
+    ensures { (b : Book) (s : Space) (counts : List ℕ) → b.heads ≡ heads.old
         → Does (accepted (loading key place pages s counts b)) b
-        (record { heads = heads.exit.now; space = s; counts = counts }) (load_answer result) }
+        (record { heads = heads.new; space = s; counts = counts }) (load_answer result) }
 {
     put_head(heads, key, place);
     BookLoad::Loaded(pages)

@@ -2,7 +2,7 @@
 use error::Refusal;
 
 // What a read answers: how many numbers the lent list has at its start now, the pages walked, and how many of the numbers are padded.
-#[derive(Drop)]
+#[derive(Clone, Copy)]
 pub enum BookRead {
     Listed {
         length: u64,

@@ -15,7 +15,7 @@ const COUNT_BYTES: usize = 2;
 const SLOT_BYTES: usize = 4;
 
 // How a load's slab fits its list: with a spare slot for the next record, or tight.
-#[derive(Drop)]
+#[derive(Clone, Copy)]
 pub enum SlabFit {
     Spare,
     Tight,
@@ -73,6 +73,7 @@ pub fn moves_to(count: usize, bytes: usize) -> SlabClass
 
 // The class of the slab that a load gives a list, none where it goes to a run of pages: with a spare slot the class of a move, tight the
 // class by bytes.
+#[tactic(auto, using(crate::proofs::LawsRules::loads_none, crate::proofs::LawsRules::loads_by_bytes), unfolding(crate::specs::Places::loads_to))]
 pub fn loads_to(fit: SlabFit, count: usize, bytes: usize) -> SlabClass
     requires { (1 ≤ count) × (bytes < 2 ^ 40) }
     ensures { chosen result ≡ loads_to fit count bytes }

@@ -16,7 +16,7 @@ use std::io::Read;
 // The book of the script: how many bytes and keys were asked for, and below which key lines gave keys to desks. A book has no keys until
 // they are asked for. And how many lines were refused and not understood, from the first line on. Body, heads, state and what was told of
 // desks are lent beside it.
-#[derive(Drop)]
+#[derive(Clone, Copy)]
 struct Book {
     size: usize,
     keys: usize,

@@ -23,7 +23,7 @@ use scripthash_layout::{SH_PAGE_BYTES, SH_PAGE_SLAB_CLASS};
 const PAGES: usize = SH_PAGE_SLAB_CLASS as usize;
 
 // What a look ahead at a take answers: where the mark would stand after it, or the refusal.
-#[derive(Drop)]
+#[derive(Clone, Copy)]
 enum Peek {
     Mark(u64),
     Refused(Refusal),

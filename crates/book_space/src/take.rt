@@ -12,7 +12,7 @@ use scripthash_free::PopFree;
 use scripthash_layout::{SH_PAGE_BYTES, SH_PAGE_SLAB_CLASS};
 
 // What taking a block or a run answers: where it begins, or a refusal.
-#[derive(Drop)]
+#[derive(Clone, Copy)]
 pub enum TakeBlock {
     At(u64),
     Refused(Refusal),

@@ -6,7 +6,7 @@ ghost use Rattle.book_start.specs.Answers.{fresh_answer};
 use error::Refusal;
 
 // What making a book fresh answers.
-#[derive(Drop)]
+#[derive(Clone, Copy)]
 pub enum BookFresh {
     Made,
     Refused(Refusal),

@@ -16,7 +16,7 @@ use scripthash_stream::ScanStream;
 
 // What claiming the blocks of a key or of a free list gives: all of them are claimed, with the units that they take; the key isn't sound or
 // a block can't stand where it is named; or a block shares a byte with one claimed before.
-#[derive(Drop)]
+#[derive(Clone, Copy)]
 pub enum Claiming {
     Done(u64),
     Unfit,

@@ -10,7 +10,7 @@ ghost use Rattle.compact.specs.Answers.{read_uleb_answer, write_uleb_answer};
 use error::Refusal;
 
 // What reading a number answers: its value, the length of its form and whether that is the shortest; or a refusal.
-#[derive(Drop)]
+#[derive(Clone, Copy)]
 pub enum ReadUleb128 {
     Value {
         value: u64,
@@ -21,7 +21,7 @@ pub enum ReadUleb128 {
 }
 
 // What writing a number answers: how many bytes were written, or a refusal.
-#[derive(Drop)]
+#[derive(Clone, Copy)]
 pub enum WriteUleb128 {
     Written(usize),
     Refused(Refusal),

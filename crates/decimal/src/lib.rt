@@ -10,7 +10,7 @@ ghost use Rattle.decimal.specs.Decimal.{is_digit, all_digits, value_of, in64_bit
 pub use words::{Numbers, numbers_into, skip_spaces, word_end};
 
 // What reading a word answers.
-#[derive(Drop)]
+#[derive(Clone, Copy)]
 pub enum ReadDecimal {
     // The word is this number.
     Number(u64),

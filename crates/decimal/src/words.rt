@@ -6,7 +6,7 @@ ghost use Rattle.decimal.specs.Words.{TakenWords, words_from, take_word, take_wo
 use crate::{ReadDecimal, read_decimal};
 
 // What reading the words of a line answers.
-#[derive(Drop)]
+#[derive(Clone, Copy)]
 pub enum Numbers {
     // So many numbers, which the lent list has at its start now.
     Read(usize),
@@ -19,7 +19,7 @@ pub enum Numbers {
 }
 
 // What comes of one word: its number was put into the list, or the reading ends.
-#[derive(Drop)]
+#[derive(Clone, Copy)]
 enum PutWord {
     Put,
     Stopped(Numbers),

@@ -49,7 +49,7 @@ fn flag_page(words: &mut [u64; 4096], from: u64, page: u64, next: u64) -> u64
 }
 
 // What flagging the pages of a free list gives: whether it passes, and the next page behind the window.
-#[derive(Drop)]
+#[derive(Clone, Copy)]
 pub struct Flagged {
     pub passes: bool,
     pub next: u64,

@@ -26,7 +26,7 @@ fn overlay_pages(body: &[u8], mark: u64, head: u64, count: u64, words: &mut [u64
 }
 
 // What the windows laid over each other tell: whether the list passes, and whether no stretch is freed.
-#[derive(Drop)]
+#[derive(Clone, Copy)]
 pub struct Ruled {
     pub passes: bool,
     pub none: bool,

@@ -29,7 +29,7 @@ pub fn pages_end(body: &[u8], mark: u64, head: u64, count: u64) -> bool
 
 // What the look at a window gives: whether the list passes, the window's end, the first page from which a stretch can begin, and one
 // before which no page behind the window is freed.
-#[derive(Drop)]
+#[derive(Clone, Copy)]
 struct Looked {
     passes: bool,
     end: u64,
@@ -119,7 +119,7 @@ fn look(
 }
 
 // What the search for a run gives: where it begins, nothing, or that the list can't be searched.
-#[derive(Drop)]
+#[derive(Clone, Copy)]
 pub enum FoundRun {
     At(u64),
     Nothing,

@@ -10,7 +10,7 @@ use crate::flags::{WINDOW, lower};
 use scripthash_layout::SH_PAGE_BYTES;
 
 // How many pages are kept, and the end of the window that they are all of.
-#[derive(Drop)]
+#[derive(Clone, Copy)]
 pub struct Room {
     pub count: usize,
     pub end: u64,

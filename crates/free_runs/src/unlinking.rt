@@ -7,7 +7,7 @@ ghost use Rattle.buffer.specs.Bytes.{overwrite};
 ghost use Rattle.buffer.specs.LittleEndian.{bytes_of};
 
 // A place in a free list: an offset, 0 at the end, and how many pages the list has from there on.
-#[derive(Drop)]
+#[derive(Clone, Copy)]
 struct Place {
     at: u64,
     left: u64,

@@ -56,7 +56,7 @@ fn replay(
 }
 
 // How many lines of a file were replayed, how many of them differ, and how many histories began.
-#[derive(Drop)]
+#[derive(Clone, Copy)]
 struct Count {
     lines: u64,
     differ: u64,

@@ -28,12 +28,12 @@ pub extern "C" fn ouriscado_book_fresh(
     ceiling: &[u64; 16],
 ) -> u32
     ensures number { result ≡ refusal_of (makes_fresh desks.now
-        (record { reserve = reserve.entry.now; ceiling = ceiling.now })
+        (record { reserve = reserve.now; ceiling = ceiling.now })
         (book_of body.now heads.old mark.old free.old counts.old)) }
     ensures book { book_of body.now heads.new mark.new free.new counts.new
         ≡ made_after
         (book_of body.now heads.old mark.old free.old counts.old)
-        (makes_fresh desks.now (record { reserve = reserve.entry.now; ceiling = ceiling.now })
+        (makes_fresh desks.now (record { reserve = reserve.now; ceiling = ceiling.now })
         (book_of body.now heads.old mark.old free.old counts.old)) }
     ensures kept { result ≢ 0 → book_of body.now heads.new mark.new free.new counts.new
         ≡ book_of body.now heads.old mark.old free.old counts.old }

@@ -23,7 +23,7 @@ const SH_PAGE_MIN_FKS: usize = 407;
 pub type ChunkRange = [usize; 2];
 
 // What cutting answers: how many parts there are, or a refusal.
-#[derive(Drop)]
+#[derive(Clone, Copy)]
 pub enum ChunkRanges {
     Parts(usize),
     Refused(Refusal),
@@ -42,7 +42,7 @@ impl ChunkRanges {
 }
 
 // How far a part reaches: the index of the first number that doesn't fit, and the bytes of those before it.
-#[derive(Drop)]
+#[derive(Clone, Copy)]
 struct Reach {
     end: usize,
     used: usize,

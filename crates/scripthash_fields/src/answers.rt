@@ -7,7 +7,7 @@ ghost use Rattle.scripthash_fields.specs.FieldAnswers.{count_answer, done_answer
 use error::Refusal;
 
 // What a page's link says: LAST or not, and the offset of the page that it names; or a refusal.
-#[derive(Drop)]
+#[derive(Clone, Copy)]
 pub enum PageLink {
     Link { last: bool, off: u64 },
     Refused(Refusal),
@@ -26,7 +26,7 @@ impl PageLink {
 }
 
 // Whether a page is LAST, or a refusal.
-#[derive(Drop)]
+#[derive(Clone, Copy)]
 pub enum PageLast {
     Last(bool),
     Refused(Refusal),
@@ -45,7 +45,7 @@ impl PageLast {
 }
 
 // The offset of a page, or a refusal.
-#[derive(Drop)]
+#[derive(Clone, Copy)]
 pub enum PageOffset {
     Offset(u64),
     Refused(Refusal),
@@ -64,7 +64,7 @@ impl PageOffset {
 }
 
 // The extent that a page names, nothing where it names none, or a refusal.
-#[derive(Drop)]
+#[derive(Clone, Copy)]
 pub enum PageExtent {
     Extent { base: u64, n: u32 },
     Nothing,
@@ -85,7 +85,7 @@ impl PageExtent {
 }
 
 // A page's creates, or a refusal.
-#[derive(Drop)]
+#[derive(Clone, Copy)]
 pub enum PageCreates {
     Creates(u32),
     Refused(Refusal),
@@ -104,7 +104,7 @@ impl PageCreates {
 }
 
 // A count of numbers or of bytes, or a refusal.
-#[derive(Drop)]
+#[derive(Clone, Copy)]
 pub enum PageCount {
     Count(usize),
     Refused(Refusal),
@@ -123,7 +123,7 @@ impl PageCount {
 }
 
 // That a page passed or was set, or a refusal.
-#[derive(Drop)]
+#[derive(Clone, Copy)]
 pub enum PageDone {
     Done,
     Refused(Refusal),

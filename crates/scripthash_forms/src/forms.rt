@@ -6,14 +6,14 @@ use compact::ReadUleb128;
 use scripthash_stream::{BIT_63, wide};
 
 // What was read of a form: its value, 0 where that tells nothing, and how many bytes it takes.
-#[derive(Drop)]
+#[derive(Clone, Copy)]
 struct Form {
     value: u64,
     len: usize,
 }
 
 // Where a stream that was scanned quickly ends: the bytes that it takes, 0 where it wasn't, and its last number.
-#[derive(Drop)]
+#[derive(Clone, Copy)]
 pub struct StreamEnd {
     pub taken: usize,
     pub last: u64,

@@ -18,27 +18,27 @@ use scripthash_layout::{
 const LARGEST_BYTES: u64 = 2048;
 
 // The offset of the first freed block of each class, 0 to 8, and 0 where a class has none.
-#[derive(Drop)]
+#[derive(Clone, Copy)]
 pub struct FreeHeads {
     pub heads: [u64; 9],
 }
 
 // The class of the blocks that so many bytes have room for, if there is one.
-#[derive(Drop)]
+#[derive(Clone, Copy)]
 pub enum RelocClass {
     Class(u8),
     Nothing,
 }
 
 // What pushing a block, or the blocks of a gap, answers.
-#[derive(Drop)]
+#[derive(Clone, Copy)]
 pub enum PushFree {
     Pushed,
     Refused(Refusal),
 }
 
 // What popping a block answers: its offset, none, or a refusal.
-#[derive(Drop)]
+#[derive(Clone, Copy)]
 pub enum PopFree {
     Block(u64),
     Nothing,
@@ -46,14 +46,14 @@ pub enum PopFree {
 }
 
 // The answer of a push, and the free heads after it.
-#[derive(Drop)]
+#[derive(Clone, Copy)]
 pub struct AfterPush {
     pub answer: PushFree,
     pub free: FreeHeads,
 }
 
 // The answer of a pop, and the free heads after it.
-#[derive(Drop)]
+#[derive(Clone, Copy)]
 pub struct AfterPop {
     pub answer: PopFree,
     pub free: FreeHeads,

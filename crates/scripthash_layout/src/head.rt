@@ -36,14 +36,14 @@ pub enum ShHeadValue {
 }
 
 // The word of a head value.
-#[derive(Drop)]
+#[derive(Clone, Copy)]
 pub enum Packed {
     Word(u64),
     Refused(Refusal),
 }
 
 // The head value of a word.
-#[derive(Drop)]
+#[derive(Clone, Copy)]
 pub enum Unpacked {
     Head(ShHeadValue),
     Refused(Refusal),
@@ -94,6 +94,7 @@ pub fn pack8(v: ShHeadValue) -> Packed
 }
 
 // What a stored word says. A match on its mode decides.
+#[tactic(auto, unfolding(crate::specs::Head::unpack_head, error::specs::Refusal::refuse_if))]
 pub fn unpack8(w: u64) -> Unpacked
     ensures { unpack_answer result ≡ unpack_head w }
 {

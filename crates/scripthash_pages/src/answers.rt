@@ -6,7 +6,7 @@ ghost use Rattle.scripthash_pages.specs.EntryAnswers.{last_fk_answer, entries_an
 use error::Refusal;
 
 // The last number of a page, 0 where it has none, or a refusal.
-#[derive(Drop)]
+#[derive(Clone, Copy)]
 pub enum PageLastFk {
     Last(u64),
     Refused(Refusal),
@@ -25,7 +25,7 @@ impl PageLastFk {
 }
 
 // What reading a page's numbers answers: how many, and how many of them are padded; or a refusal.
-#[derive(Drop)]
+#[derive(Clone, Copy)]
 pub enum PageEntries {
     Entries { count: usize, padded: usize },
     Refused(Refusal),
@@ -48,7 +48,7 @@ impl PageEntries {
 
 // What reading a page answers: how many numbers, the offset of the page behind it, 0 where it is the last, and how many of the numbers are
 // padded; or a refusal.
-#[derive(Drop)]
+#[derive(Clone, Copy)]
 pub enum PageSlice {
     Decoded {
         count: usize,
@@ -75,7 +75,7 @@ impl PageSlice {
 }
 
 // What appending a number answers: it was appended, the page is full, or a refusal.
-#[derive(Drop)]
+#[derive(Clone, Copy)]
 pub enum TryAppend {
     Appended,
     Full,

@@ -20,7 +20,7 @@ use scripthash_stream::{MAX_OFFERED, ScanStream, StreamBytes};
 const SH_FLAG_BIT: u64 = 0x8000_0000_0000_0000;
 
 // Where an offered number goes in a page, and its difference; nowhere where the page is full; or a refusal.
-#[derive(Drop)]
+#[derive(Clone, Copy)]
 pub enum AppendSpot {
     Behind { at: usize, difference: u64 },
     Nowhere,

@@ -13,7 +13,7 @@ use scripthash_fields::{PageDone, SH_PAGE_OFF_N_FKS, sh_page_require_delta, stre
 use scripthash_stream::{ScanStream, StreamRead};
 
 // Where a page's stream starts and how many numbers it has, or a refusal.
-#[derive(Drop)]
+#[derive(Clone, Copy)]
 pub enum StreamPlace {
     At { off: usize, count: usize },
     Refused(Refusal),

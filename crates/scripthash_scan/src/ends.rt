@@ -11,14 +11,14 @@ const BLOCK: usize = 240;
 const LEAST_ENDS: usize = 40;
 
 // The place up to which forms were counted, and how many are still to end.
-#[derive(Drop)]
+#[derive(Clone, Copy)]
 struct Counted {
     at: usize,
     left: usize,
 }
 
 // The same, and how many forms end in each 16 bytes, 16 where that isn't known, 0 where counting stops.
-#[derive(Drop)]
+#[derive(Clone, Copy)]
 struct Counting {
     at: usize,
     left: usize,

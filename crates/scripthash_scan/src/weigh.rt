@@ -18,14 +18,14 @@ use scripthash_stream::BIT_63;
 const MOST_BYTES: usize = 1048576;
 
 // What forms weigh, and the bytes of the longest as far as it matters, 0 where they can't be weighed.
-#[derive(Drop)]
+#[derive(Clone, Copy)]
 struct Weighed {
     sum: u64,
     longest: usize,
 }
 
 // What the byte at a place adds: its piece; the same where it is not the first byte of its form, else 0; where it is not the second either.
-#[derive(Drop)]
+#[derive(Clone, Copy)]
 struct Pieces {
     any: u8,
     second: u8,

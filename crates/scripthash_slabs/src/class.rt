@@ -7,7 +7,7 @@ ghost use Rattle.scripthash_slabs.specs.Answers.{chosen};
 use scripthash_layout::{SH_MAX_SLAB_BYTES, SH_SLAB_BASE, SH_SLAB_BASE_BYTES};
 
 // The class that was chosen, or none.
-#[derive(Drop)]
+#[derive(Clone, Copy)]
 pub enum SlabClass {
     Class(u8),
     Nothing,

@@ -11,7 +11,7 @@ use scripthash_stream::{MAX_OFFERED, StreamBytes, StreamRead};
 
 // What reading a slab's payload answers: how many numbers it has, how many bytes it takes and how many of the numbers are padded; or a
 // refusal.
-#[derive(Drop)]
+#[derive(Clone, Copy)]
 pub enum SlabPayload {
     Numbers {
         used: usize,

@@ -51,6 +51,7 @@ pub fn count_zeros(buf: &[u8], n: usize) -> usize
 }
 
 // How many of the n numbers of a stream that takes so many bytes are padded: none where each takes one.
+#[tactic(auto, using(crate::proofs::LawsPadded::padded_bytes, crate::proofs::LawsPadded::padded_counted))]
 pub fn count_padded(buf: &[u8], n: usize, taken: usize) -> usize
     requires { taken ≤ length buf.now }
     ensures { (s : Scan) → scan n buf.now ≡ accepted s → s.taken ≡ taken → result ≡ padded_in n buf.now }

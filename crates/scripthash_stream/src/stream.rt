@@ -15,28 +15,28 @@ pub const MAX_OFFERED: usize = 65535;
 pub const BIT_63: u64 = 0x8000_0000_0000_0000;
 
 // The next number of a stream and the length of its form, or a refusal.
-#[derive(Drop)]
+#[derive(Clone, Copy)]
 pub enum NextFk {
     Number { fk: u64, len: usize },
     Refused(Refusal),
 }
 
 // What scanning a stream answers: how many bytes it takes and its last number, 0 where it has none, or a refusal.
-#[derive(Drop)]
+#[derive(Clone, Copy)]
 pub enum ScanStream {
     Scanned { taken: usize, last: u64 },
     Refused(Refusal),
 }
 
 // What writing or reading a stream answers: how many bytes it takes, or a refusal.
-#[derive(Drop)]
+#[derive(Clone, Copy)]
 pub enum StreamBytes {
     Bytes(usize),
     Refused(Refusal),
 }
 
 // What reading a stream tells: how many bytes it takes and how many of its numbers are padded, or a refusal.
-#[derive(Drop)]
+#[derive(Clone, Copy)]
 pub enum StreamRead {
     Read { taken: usize, padded: usize },
     Refused(Refusal),

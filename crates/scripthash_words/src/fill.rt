@@ -29,7 +29,7 @@ fn fewer(a: usize, b: usize) -> usize
 }
 
 // What a part gave: the place up to which starts were found, the last number, and how many numbers were written, 0 where it failed.
-#[derive(Drop)]
+#[derive(Clone, Copy)]
 struct Filled {
     at: usize,
     last: u64,

@@ -5,7 +5,7 @@ use compact::ReadUleb128;
 use scripthash_stream::BIT_63;
 
 // A number and the bytes that its form takes, 0 where it can't be read.
-#[derive(Drop)]
+#[derive(Clone, Copy)]
 pub struct First {
     pub fk: u64,
     pub len: usize,

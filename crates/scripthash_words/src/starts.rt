@@ -3,7 +3,7 @@ ghost use Rattle.std.specs.Prelude.{◌≡◌, ℕ, ◌+◌, ◌-◌, ◌≤◌,
 ghost use Rattle.scripthash_words.specs.Words.{end_one, four_bytes, words_at, Found};
 
 // The place up to which starts were looked for, and how many there are.
-#[derive(Drop)]
+#[derive(Clone, Copy)]
 pub struct Starts {
     pub at: usize,
     pub count: usize,
