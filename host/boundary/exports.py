@@ -7,8 +7,8 @@ ROOT = Path(__file__).resolve().parent.parent.parent
 NUMBERS = {"u8", "u16", "u32", "u64", "usize", "bool"}
 FUNCTION = re.compile(r'((?://[^\n]*\n)+)(?:#\[[^\n]*\n)*pub (?:extern "C" )?fn (ouriscado_\w+)\(([^)]*)\)(?: -> (\w+))?')
 EXPORT = re.compile(r'#\[unsafe\(no_mangle\)\]\n(?:#\[[^\n]*\n)*pub extern "C" fn (\w+)\(([^)]*)\)(?: -> (\w+))?')
-REFUSAL = re.compile(r"^pub const (\w+): Refusal = (\d+);", re.M)
-SHELL_WORDS = re.compile(r'^ *(\d+) =>\s*[^"\n]*"([^"]+)"', re.M)
+VARIANT = re.compile(r"^    (\w+) = (\d+),", re.M)
+SHELL_WORDS = re.compile(r'^ *Refusal::(\w+) => "([^"]+)"', re.M)
 LISTED = re.compile(r"\d+(?:(?:, | and | to )\d+)*(?=, where|\.?$)")
 BOOK, CORE = "ouriscado_book_", "ouriscado_core_"
 
@@ -127,14 +127,20 @@ def statement(text, m, first):
     return name, " ".join(parameters.split()).rstrip(","), result, " ".join(clauses.split())
 
 
+def capitals(name):
+    """A name of crate error in capitals, as C has it: ShapeBad is SHAPE_BAD, StoredBit63 is STORED_BIT_63."""
+    return re.sub(r"(?<=[a-z])(?=[A-Z0-9])", "_", name).upper()
+
+
 def refusal_names():
-    """The name of each refusal by its number, as crate error has it."""
-    return {int(number): name for name, number in REFUSAL.findall((ROOT / "crates/error/src/lib.rt").read_text())}
+    """The name of each refusal by its number, as crate error has it, in capitals."""
+    return {int(number): capitals(name) for name, number in VARIANT.findall((ROOT / "crates/error/src/lib.rt").read_text())}
 
 
 def shell_words():
     """What the shell says of each refusal that it knows, by its number."""
-    return {int(number): words for number, words in SHELL_WORDS.findall((ROOT / "crates/book_script/src/refusals.rt").read_text())}
+    numbers = dict(VARIANT.findall((ROOT / "crates/error/src/lib.rt").read_text()))
+    return {int(numbers[name]): words for name, words in SHELL_WORDS.findall((ROOT / "crates/book_script/src/refusals.rt").read_text())}
 
 
 def version():

@@ -1,7 +1,7 @@
 """The refusals: the one table of their words. The headers, the Rust crate, docs/FORMAT.md and the auditor's page take them from here, and the shell's
 words are held to it (host/bindings.py).
 
-Each has its number; its name, as crate error has it; its text, which is what a program shows; what is added to the text where there is room, with the
+Each has its number; its name, as crate error has it, in capitals; its text, which is what a program shows; what is added to the text where there is room, with the
 mark before it; who meets it; and what an operator does. One that has no name is out of use. Texts begin in lower case and have no full stop.
 """
 

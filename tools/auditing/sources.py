@@ -19,6 +19,9 @@ SYNTAX = set("→ λ × = : _ Type record where".split())
 PRELUDE = {"Unit": "Prim", "tt": "Prim", "⊥": "Prim", "¬": "Prim"}
 TOOLCHAIN_CONSTRUCTORS = set("zero suc [] ∷ true false none some refl tt".split())
 
+# Types of the language, which stand in code as they do in Rust.
+LANGUAGE_TYPES = {"Result", "Option"}
+
 USE = re.compile(r"(?:ghost )?use (\S+)\.\{(.*)\};?")
 PASSES_ON = re.compile(r"^(?:unfoldable )?pub use (\S+)\.\{(.*)\}$", re.M)
 OURS = re.compile(r"Rattle\.([a-z0-9_]+)\.(specs|proofs)\.(.+)")
@@ -228,7 +231,8 @@ class Code(Source):
                 end = next(i for i in range(row, len(found.code)) if is_closed(found.code[row : i + 1])) + 1
                 uses += self.contract(found, row, found.code[row:end])
             else:
-                uses += [Use(row, m.start(1), len(m.group(1)), self.type_named(m.group(1))) for m in re.finditer(r"(?:[:([&] ?|> )([A-Z]\w+)", line)]
+                named = [m for m in re.finditer(r"(?:[:([&<] ?|> |, )([A-Z]\w+)", line) if m.group(1) not in LANGUAGE_TYPES]
+                uses += [Use(row, m.start(1), len(m.group(1)), self.type_named(m.group(1))) for m in named]
             row = end
         return uses
 
@@ -244,7 +248,7 @@ class Code(Source):
         """What a type's name means in this file."""
         crate = self.path.relative_to(CRATES).parts[0]
         for line in self.lines:
-            match = re.fullmatch(rf"use (\w+)::(?:\w+::)*{name};", line)
+            match = re.fullmatch(rf"use (\w+)::(?:\w+::)*(?:{name}|\{{(?:.*, )?{name}(?:, .*)?\}});", line)
             if match and match.group(1) != "crate":
                 crate = match.group(1)
         return Target("code", code_file(crate, name), name)

@@ -1,7 +1,10 @@
 -- What the steps of the book's calls promise each other: no answer of a public function is defined here.
 use Rattle.std.specs.Prelude.{ℕ, ◌^◌, ◌≤◌, ◌<◌, List, ◌≡◌, length}
+use Rattle.std.specs.Prelude.{Result}
 use Rattle.std.proofs.Math.Option.{Option, none, some}
 use Rattle.error.specs.Refusal.{Answer, accepted, refused, and_then, answered, refusal_of}
+use Rattle.error.specs.Answers.{result_answer}
+use Rattle.error.specs.declared.Refusal.{Refusal}
 use Rattle.scripthash_layout.specs.Sizes.{max_slab_class, slab_bytes}
 use Rattle.scripthash_layout.specs.declared.head.ShHeadValue.{ShHeadValue}
 use Rattle.scripthash_layout.specs.declared.head.ShHeadValue.TheVariants.{Slab, Extent}
@@ -14,8 +17,6 @@ use Rattle.book_space.specs.Space.{Space, InShape}
 use Rattle.book_space.specs.Desks.{slab_for, page_for}
 use Rattle.book_blocks.specs.Blocks.{last_page_of}
 use Rattle.book.specs.Book.{Book, Outcome, filled, with_desks}
-use Rattle.book.specs.declared.place.PlaceList.{PlaceList}
-use Rattle.book.specs.declared.place.PlaceList.TheVariants.{At, Refused}
 
 -- A list that was written to a taken block: its place, and the space and the counts afterwards.
 pub record Placed : Type 0 where
@@ -79,9 +80,8 @@ pub record Places (a : Answer Placed) (before : Space) (counts_before : List ℕ
   pub counts : counts_after ≡ counts_with counts_before a
 
 -- The answer of placing a list.
-abbrev pub place_answer : PlaceList → Answer ShHeadValue
-place_answer (At place) = accepted place
-place_answer (Refused number) = refused number
+abbrev pub place_answer : Result ShHeadValue Refusal → Answer ShHeadValue
+place_answer = result_answer (λ place. place)
 
 -- A change does what an answer of its definition says: it tells the same, and leaves the book after it.
 pub record Does {T : Type 0} (a : Answer (Outcome T)) (before after : Book) (tells : Answer T) : Type 0 where

@@ -1,23 +1,31 @@
 // A call that is lent the list of desks: what is judged before it.
+// Sizes and numbers of 64 bits are cast with `as`, since Rust has no From between them: each cast is proved to fit.
 ghost use Rattle.std.specs.Prelude.{ℕ, List, ◌≡◌, length};
+ghost use Rattle.error.specs.Answers.{refusal_in};
 ghost use Rattle.book.specs.Answers.{book_of};
 ghost use Rattle.book.specs.Steps.{call_number};
 
 use error::Refusal;
 
-// The number that a call with a list of desks is turned back with before anything else, or 0: 1 by lengths, mark or counts, 39 by the list.
-pub fn judge_call(body: &[u8], heads: usize, mark: u64, counts: &[u64; 49], desks: &[u8]) -> Refusal
+// Judges a call with a list of desks before anything else: by lengths, mark and counts, and by the list.
+pub fn judge_call(
+    body: &[u8],
+    heads: usize,
+    mark: u64,
+    counts: &[u64; 49],
+    desks: &[u8],
+) -> Result<(), Refusal>
     ensures { (words free : List ℕ) → length words ≡ heads
-        → result ≡ call_number desks.now (book_of body.now words mark free counts.now) }
+        → refusal_in result ≡ call_number desks.now (book_of body.now words mark free counts.now) }
 {
     if book_space::shape_broken(body, heads, mark) {
-        return error::SHAPE_BAD;
+        return Err(Refusal::ShapeBad);
     }
     if book_desks::counts_high(counts, body.len() as u64) {
-        return error::SHAPE_BAD;
+        return Err(Refusal::ShapeBad);
     }
     if book_desks::list_bad(desks, heads) {
-        return error::DESKS_BAD;
+        return Err(Refusal::DesksBad);
     }
-    0
+    Ok(())
 }

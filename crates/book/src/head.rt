@@ -2,17 +2,13 @@
 ghost use Rattle.std.specs.Prelude.{◌≡◌, ◌<◌, length, set};
 ghost use Rattle.book.specs.Book.{head_word};
 
-use scripthash_layout::{Packed, ShHeadValue};
+use scripthash_layout::ShHeadValue;
 
 // The word that stores a place.
 pub fn head_word(place: ShHeadValue) -> u64
     ensures { result ≡ head_word place }
 {
-    let packed = scripthash_layout::pack8(place);
-    match packed {
-        Packed::Word(word) => word,
-        Packed::Refused(_) => 0,
-    }
+    scripthash_layout::pack8(place).unwrap_or(0)
 }
 
 // Gives a key of the heads another place.

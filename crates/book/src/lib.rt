@@ -8,4 +8,4 @@ mod place;
 
 pub use call::judge_call;
 pub use head::put_head;
-pub use place::{PlaceList, move_list, place_in_slab};
+pub use place::{move_list, place_in_slab};

@@ -1,4 +1,5 @@
 // Appending a number to a key, for a desk.
+// Sizes and numbers of 64 bits are cast with `as`, since Rust has no From between them: each cast is proved to fit.
 ghost use Rattle.std.specs.Prelude.{List, ◌≡◌, ℕ, ◌<◌, length};
 ghost use Rattle.error.specs.Refusal.{accepted};
 ghost use Rattle.scripthash_layout.specs.declared.head.ShHeadValue.TheVariants.{Inline, Slab, Extent};
@@ -11,17 +12,16 @@ ghost use Rattle.book_append.specs.Answers.{append_answer};
 ghost use Rattle.book_append.specs.Steps.{KeyKnown, ToAppend, AppendsAt, AppendsInline, SlabMoves, ChainGrows};
 ghost use Rattle.book.specs.Steps.{Does};
 
-use crate::answers::{AppendedTo, BookAppend};
-use book::{PlaceList, move_list, put_head};
+use crate::answers::AppendedTo;
+use book::{move_list, put_head};
 use book_desks::DESKS;
 use book_keys::TailEnd;
-use book_space::TakeBlock;
 use compact::uleb128_len;
-use scripthash_layout::{SH_PAGE_SIZE, ShHeadValue, Unpacked};
-use scripthash_stream::ScanStream;
+use error::Refusal;
+use scripthash_fields::SH_PAGE_EXTENT_HEADER_LEN;
+use scripthash_layout::{SH_PAGE_SIZE, ShHeadValue};
+use scripthash_stream::Scanned;
 
-// The bytes of a last page before its stream.
-const LAST_HEADER: usize = 24;
 // The most numbers that a list has when it moves.
 const MOST_MOVED: usize = 257;
 
@@ -31,14 +31,14 @@ pub fn accept_append(
     key: usize,
     place: ShHeadValue,
     rewritten: u64,
-) -> BookAppend
+) -> Result<AppendedTo, Refusal>
     requires { key < length heads.old }
     ensures { (b : Book) (s : Space) (counts : List ℕ) → b.heads ≡ heads.old
         → Does (accepted (appending key place rewritten s counts b)) b
         (record { heads = heads.new; space = s; counts = counts }) (append_answer result) }
 {
     put_head(heads, key, place);
-    BookAppend::Appended(AppendedTo { place, rewritten })
+    Ok(AppendedTo { place, rewritten })
 }
 
 // A number behind an inline number: both move to a block.
@@ -52,7 +52,7 @@ pub fn append_inline(
     key: usize,
     n: u64,
     entry: u64,
-) -> BookAppend
+) -> Result<AppendedTo, Refusal>
     requires { AppendsInline desk (book_of body.old heads.old mark.old free.old counts.old) key n entry }
     ensures { (used : ℕ) → Does
         (append_at desk (book_of body.old heads.old mark.old free.old counts.old)
@@ -61,14 +61,11 @@ pub fn append_inline(
         (book_of body.new heads.new mark.new free.new counts.new) (append_answer result) }
 {
     if n <= entry {
-        return BookAppend::Refused(error::OFFERED_NOT_RISING);
+        return Err(Refusal::OfferedNotRising);
     }
     let list = [entry, n];
-    let answer = move_list(body, mark, free, counts, desk, &list);
-    match answer {
-        PlaceList::At(place) => accept_append(heads, key, place, 1),
-        PlaceList::Refused(number) => BookAppend::Refused(number),
-    }
+    let place = move_list(body, mark, free, counts, desk, &list)?;
+    accept_append(heads, key, place, 1)
 }
 
 // A number behind a slab's list moves with it: the list is read, a block is taken and filled, then the slab is given back.
@@ -84,7 +81,7 @@ pub fn move_slab(
     class: u8,
     used: u16,
     off: u64,
-) -> BookAppend
+) -> Result<AppendedTo, Refusal>
     requires { SlabMoves desk (book_of body.old heads.old mark.old free.old counts.old) key n class used off }
     ensures { Does
         (append_at desk (book_of body.old heads.old mark.old free.old counts.old)
@@ -94,16 +91,11 @@ pub fn move_slab(
 {
     let mut list = [0; MOST_MOVED];
     book_keys::slab_into(body, class, off, &mut list);
-    let held = used as usize;
+    let held = usize::from(used);
     list[held] = n;
-    let answer = move_list(body, mark, free, counts, desk, &list[0..held + 1]);
-    match answer {
-        PlaceList::At(place) => {
-            book_space::release_block(body, free, class, off);
-            accept_append(heads, key, place, used as u64)
-        }
-        PlaceList::Refused(number) => BookAppend::Refused(number),
-    }
+    let place = move_list(body, mark, free, counts, desk, &list[0..held + 1])?;
+    book_space::release_block(body, free, class, off);
+    accept_append(heads, key, place, u64::from(used))
 }
 
 // A number behind a slab's list: it stays in the slab, by the bytes as they are stored, or moves.
@@ -119,7 +111,7 @@ fn append_slab(
     class: u8,
     used: u16,
     off: u64,
-) -> BookAppend
+) -> Result<AppendedTo, Refusal>
     requires { ToAppend desk (book_of body.old heads.old mark.old free.old counts.old) key n }
     ensures { Does
         (append_at desk (book_of body.old heads.old mark.old free.old counts.old)
@@ -127,15 +119,16 @@ fn append_slab(
         (book_of body.old heads.old mark.old free.old counts.old)
         (book_of body.new heads.new mark.new free.new counts.new) (append_answer result) }
 {
-    let end = book_keys::slab_end(body, *mark, class, used, off);
-    let ScanStream::Scanned { taken, last } = end else {
-        return BookAppend::Refused(error::KEY_UNSOUND);
-    };
+    let Scanned { taken, last } = book_keys::slab_end(body, *mark, class, used, off)?;
     if n <= last {
-        return BookAppend::Refused(error::OFFERED_NOT_RISING);
+        return Err(Refusal::OfferedNotRising);
     }
     let difference = n - last;
-    if book_rules::stays(class, used as usize + 1, taken + uleb128_len(difference)) {
+    if book_rules::stays(
+        class,
+        usize::from(used) + 1,
+        taken + uleb128_len(difference),
+    ) {
         let size = scripthash_layout::slab_bytes(class) as usize;
         book_blocks::grow_slab(body, off as usize, size, used, taken, difference);
         let place = ShHeadValue::Slab {
@@ -163,7 +156,7 @@ pub fn grow_chain(
     last: u64,
     first: u64,
     creates: u32,
-) -> BookAppend
+) -> Result<AppendedTo, Refusal>
     requires { ChainGrows desk (book_of body.old heads.old mark.old free.old counts.old) key n last first creates }
     ensures { Does
         (append_at desk (book_of body.old heads.old mark.old free.old counts.old)
@@ -171,10 +164,7 @@ pub fn grow_chain(
         (book_of body.old heads.old mark.old free.old counts.old)
         (book_of body.new heads.new mark.new free.new counts.new) (append_answer result) }
 {
-    let answer = book_space::page_for(body, mark, free, counts, desk);
-    let TakeBlock::At(off) = answer else {
-        return BookAppend::Refused(answer.refusal());
-    };
+    let off = book_space::page_for(body, mark, free, counts, desk)?;
     book_blocks::link_page(body, last as usize, off);
     let list = [n];
     let total = book_blocks::total_with(creates);
@@ -193,7 +183,7 @@ fn append_page(
     key: usize,
     n: u64,
     last: u64,
-) -> BookAppend
+) -> Result<AppendedTo, Refusal>
     requires { ToAppend desk (book_of body.old heads.old mark.old free.old counts.old) key n }
     ensures { Does
         (append_at desk (book_of body.old heads.old mark.old free.old counts.old)
@@ -201,21 +191,17 @@ fn append_page(
         (book_of body.old heads.old mark.old free.old counts.old)
         (book_of body.new heads.new mark.new free.new counts.new) (append_answer result) }
 {
-    let end = book_keys::tail_end(body, *mark, last);
-    let TailEnd::Tail {
+    let TailEnd {
         taken,
         fk,
         first,
         creates,
-    } = end
-    else {
-        return BookAppend::Refused(error::KEY_UNSOUND);
-    };
+    } = book_keys::tail_end(body, *mark, last)?;
     if n <= fk {
-        return BookAppend::Refused(error::OFFERED_NOT_RISING);
+        return Err(Refusal::OfferedNotRising);
     }
     let difference = n - fk;
-    if SH_PAGE_SIZE < LAST_HEADER + taken + uleb128_len(difference) {
+    if SH_PAGE_SIZE < SH_PAGE_EXTENT_HEADER_LEN + taken + uleb128_len(difference) {
         return grow_chain(
             body, heads, mark, free, counts, desk, key, n, last, first, creates,
         );
@@ -235,7 +221,7 @@ fn append_at(
     key: usize,
     n: u64,
     place: ShHeadValue,
-) -> BookAppend
+) -> Result<AppendedTo, Refusal>
     requires { AppendsAt desk (book_of body.old heads.old mark.old free.old counts.old) key n place }
     ensures { Does
         (append_at desk (book_of body.old heads.old mark.old free.old counts.old)
@@ -247,7 +233,7 @@ fn append_at(
         ShHeadValue::Empty => {
             accept_append(heads, key, ShHeadValue::Inline { entry: n, used: 1 }, 0)
         }
-        ShHeadValue::Inline { entry, used: _ } => {
+        ShHeadValue::Inline { entry, .. } => {
             append_inline(body, heads, mark, free, counts, desk, key, n, entry)
         }
         ShHeadValue::Slab { class, used, off } => {
@@ -272,21 +258,17 @@ fn append_known(
     desk: u64,
     key: u64,
     n: u64,
-) -> BookAppend
+) -> Result<AppendedTo, Refusal>
     requires { KeyKnown desk (book_of body.old heads.old mark.old free.old counts.old) key }
     ensures { Does
         (appends desk (book_of body.old heads.old mark.old free.old counts.old) key n)
         (book_of body.old heads.old mark.old free.old counts.old)
         (book_of body.new heads.new mark.new free.new counts.new) (append_answer result) }
 {
-    let refusal = book_rules::judge_number(n);
-    if refusal != 0 {
-        return BookAppend::Refused(refusal);
-    }
+    book_rules::judge_number(n)?;
     let at = key as usize;
-    let head = scripthash_layout::unpack8(heads[at]);
-    let Unpacked::Head(place) = head else {
-        return BookAppend::Refused(error::KEY_UNSOUND);
+    let Ok(place) = scripthash_layout::unpack8(heads[at]) else {
+        return Err(Refusal::KeyUnsound);
     };
     append_at(body, heads, mark, free, counts, desk, at, n, place)
 }
@@ -301,7 +283,7 @@ pub fn append(
     desk: u64,
     key: u64,
     n: u64,
-) -> BookAppend
+) -> Result<AppendedTo, Refusal>
     ensures answer { append_answer result
         ≡ answer_of (appends desk
         (book_of body.old heads.old mark.old free.old counts.old) key n) }
@@ -311,13 +293,13 @@ pub fn append(
         (book_of body.old heads.old mark.old free.old counts.old) key n) }
 {
     if book_space::shape_broken(body, heads.len(), *mark) {
-        return BookAppend::Refused(error::SHAPE_BAD);
+        return Err(Refusal::ShapeBad);
     }
     if DESKS as u64 <= desk {
-        return BookAppend::Refused(error::DESKS_BAD);
+        return Err(Refusal::DesksBad);
     }
     if heads.len() as u64 <= key {
-        return BookAppend::Refused(error::KEY_BEYOND);
+        return Err(Refusal::KeyBeyond);
     }
     append_known(body, heads, mark, free, counts, desk, key, n)
 }

@@ -5,5 +5,5 @@
 mod answers;
 mod appending;
 
-pub use answers::{AppendedTo, BookAppend};
+pub use answers::AppendedTo;
 pub use appending::{accept_append, append, append_inline, grow_chain, move_slab};

@@ -17,7 +17,7 @@ fn make_last(page: &mut [u8], fks: &[u64], first: u64, base: u64, extents: u32, 
     requires { LastPageLent page.old fks.now base extents }
     ensures { page.new ≡ last_page_of first base extents creates fks.now }
 {
-    scripthash_pages::sh_page_pack_extent_last_fks(page, fks, base, extents, 0);
+    let _ = scripthash_pages::sh_page_pack_extent_last_fks(page, fks, base, extents, 0);
     buffer::put_u40(page, SH_PAGE_OFF_PACKED, link_to(true, first));
     buffer::put_u32(page, SH_PAGE_OFF_EXTENT_CREATES, creates);
 }
@@ -45,7 +45,7 @@ pub fn put_page_to(body: &mut [u8], off: usize, fks: &[u64], next: u64)
     ensures { body.new ≡ overwrite body.old off (page_to next fks.now) }
 {
     let end = off + SH_PAGE_SIZE;
-    scripthash_pages::sh_page_pack_fks(&mut body[off..end], fks, next);
+    let _ = scripthash_pages::sh_page_pack_fks(&mut body[off..end], fks, next);
 }
 
 // A total with one number more: one that was never counted, 0, stays unknown, and one that creates can't tell becomes so.

@@ -1,5 +1,9 @@
 -- What `run_calls` answers, in each of its four ways out: by the theorem over every list of calls it is the plain book's. Assumes nothing.
 use Prim.Native.Nat.{ℕ, ◌-◌, ◌/◌, ◌^◌, ◌≤◌, ◌<◌}
+use Rattle.std.specs.Prelude.{Result, Ok, Err}
+use Rattle.error.specs.Answers.{number_of}
+use Rattle.error.specs.declared.Refusal.{Refusal}
+use Rattle.error.specs.declared.Refusal.TheVariants.{ListTooShort}
 use mathlib.Core.Bool.{Bool, true, false, ◌||◌, true≢false}
 use mathlib.Core.List.{List, []}
 use mathlib.Core.Option.{Option, none, some}
@@ -25,8 +29,6 @@ use Rattle.plain_book.proofs.LawsGood.{is_made, shapes_kept}
 use Rattle.book.specs.Book.{Book, fresh}
 use Rattle.book_start.specs.Making.{makes_fresh, made_after}
 use Rattle.book_start.specs.Answers.{fresh_answer}
-use Rattle.book_start.specs.declared.answers.BookFresh.{BookFresh}
-use Rattle.book_start.specs.declared.answers.BookFresh.TheVariants.{Made as IsMade, Refused as NotMade}
 use Rattle.book_read.specs.Reads.{reads}
 use Rattle.book_history.specs.Calls.{after}
 use Rattle.book_history.specs.Core.{core_serves}
@@ -40,8 +42,8 @@ use Rattle.book_words.proofs.LawsWords.{some_inj, none≢some}
 use Rattle.book_calls.specs.Flat.{answers_spelled}
 use Rattle.book_calls.specs.Steps.{is_some, AllDone}
 use Rattle.book_calls.proofs.LawsFlat.{after_flat, answers_flat}
-use Rattle.book_calls.specs.Runs.{plain_words, ran_on, runs, words_on, words_after, left_on, left_by, plain_on, plain_made, Runs}
-use Rattle.book_calls.specs.declared.runs.RunCalls.TheVariants.{Ran, Unspelled, Refused}
+use Rattle.book_calls.specs.Runs.{plain_words, ran_on, runs, ran as ran_told, words_on, words_after, left_on, left_by, plain_on, plain_made, Runs}
+use Rattle.book_calls.specs.declared.runs.NotRun.TheVariants.{Unspelled, Refused}
 
 -- ---- the book that the calls are run on
 
@@ -126,7 +128,7 @@ was_none none e = refl
 was_none (some cs) e = absurd (true≢false e)
 
 module _ (ds : List ℕ) (b : Book) (calls out : List ℕ) where
-  pub unspelled : calls_of calls ≡ none → Runs ds b calls out Unspelled b out
+  pub unspelled : calls_of calls ≡ none → Runs ds b calls out (Err Unspelled) b out
   unfolding runs words_after left_by
   unspelled e =
       record {
@@ -138,7 +140,7 @@ module _ (ds : List ℕ) (b : Book) (calls out : List ℕ) where
       }
 
   pub too_short : (cs : List SpelledCall) → calls_of calls ≡ some cs → leb (answers_room cs) (length out) ≡ false
-      → Runs ds b calls out (Refused list_too_short) b out
+      → Runs ds b calls out (Err (Refused ListTooShort)) b out
   unfolding runs words_after left_by
   too_short cs e l =
       record {
@@ -155,13 +157,13 @@ module _ (ds : List ℕ) (b : Book) (calls out : List ℕ) where
             ∙ ap (λ (x : List SpelledCall). leb (answers_room x) (length out)) (some_inj (sym f ∙ e)) ∙ l));
       }
 
-  pub not_made : (left : Book) (cs : List SpelledCall) (answer : BookFresh) (number : ℕ) → calls_of calls ≡ some cs
+  pub not_made : (left : Book) (cs : List SpelledCall) (answer : Result (Unit {0}) Refusal) (refusal : Refusal) → calls_of calls ≡ some cs
       → leb (answers_room cs) (length out) ≡ true
-      → fresh_answer answer ≡ answered (λ (made : Book). tt) (makes_fresh ds unlimited b) → answer ≡ NotMade number
-      → left ≡ made_after b (makes_fresh ds unlimited b) → Runs ds b calls out (Refused number) left out
+      → fresh_answer answer ≡ answered (λ (made : Book). tt) (makes_fresh ds unlimited b) → answer ≡ Err refusal
+      → left ≡ made_after b (makes_fresh ds unlimited b) → Runs ds b calls out (Err (Refused refusal)) left out
   unfolding runs ran_on words_after words_on left_by left_on made_after
-  not_made left cs answer number e l told turned is =
-      let (bytes, plain) = none_made ds b number (sym told ∙ ap fresh_answer turned) in
+  not_made left cs answer refusal e l told turned is =
+      let (bytes, plain) = none_made ds b (number_of refusal) (sym told ∙ ap fresh_answer turned) in
       record {
         answer = rw (e, l, plain);
         words = rw (e, l, plain);
@@ -170,10 +172,10 @@ module _ (ds : List ℕ) (b : Book) (calls out : List ℕ) where
         records = λ es f fits made. absurd (refused≢accepted (sym plain ∙ made));
       }
 
-  pub all_ran : (left made : Book) (cs : List SpelledCall) (out' : List ℕ) (len : ℕ) (answer : BookFresh) → calls_of calls ≡ some cs
+  pub all_ran : (left made : Book) (cs : List SpelledCall) (out' : List ℕ) (len : ℕ) (answer : Result (Unit {0}) Refusal) → calls_of calls ≡ some cs
       → leb (answers_room cs) (length out) ≡ true
-      → fresh_answer answer ≡ answered (λ (made : Book). tt) (makes_fresh ds unlimited b) → answer ≡ IsMade
-      → made ≡ made_after b (makes_fresh ds unlimited b) → AllDone ds made cs out left out' len → Runs ds b calls out (Ran len) left out'
+      → fresh_answer answer ≡ answered (λ (made : Book). tt) (makes_fresh ds unlimited b) → answer ≡ Ok tt
+      → made ≡ made_after b (makes_fresh ds unlimited b) → AllDone ds made cs out left out' len → Runs ds b calls out (Ok len) left out'
   unfolding runs ran_on words_after words_on left_by left_on made_after
   all_ran left made cs out' len answer e l told done is d =
       let (bytes, plain) = both_made ds b (sym told ∙ ap fresh_answer done) in
@@ -185,12 +187,12 @@ module _ (ds : List ℕ) (b : Book) (calls out : List ℕ) where
       let ends : left ≡ after ds (begun ds b) (calls_in cs) =
       d.left_is ∙ after_flat ds made cs ∙ ap (λ (x : Book). after_calls (core_serves ds) x (calls_in cs)) start
       ∙ made_after_lem ds b plain (calls_in cs) in
-      let ran : (es : List SpelledCall) → calls_of calls ≡ some es → left ≡ after ds (begun ds b) (calls_in es) =
+      let ends_by : (es : List SpelledCall) → calls_of calls ≡ some es → left ≡ after ds (begun ds b) (calls_in es) =
       λ es f. ends ∙ ap (λ (x : List SpelledCall). after ds (begun ds b) (calls_in x)) (some_inj (sym e ∙ f)) in
       record {
-        answer = rw (e, l, plain) (ap Ran (d.count ∙ ap length words));
+        answer = rw (e, l, plain) (ap ran_told (d.count ∙ ap length words));
         words = rw (e, l, plain) (d.words ∙ ap (overwrite out 0) words);
         left = rw (e, l, bytes) ends;
-        stands = λ es f fits made. made_stands ds b made (calls_in es) left (ran es f);
-        records = λ es f fits made. made_records ds b made (calls_in es) left (ran es f);
+        stands = λ es f fits made. made_stands ds b made (calls_in es) left (ends_by es f);
+        records = λ es f fits made. made_records ds b made (calls_in es) left (ends_by es f);
       }

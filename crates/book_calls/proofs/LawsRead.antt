@@ -1,5 +1,8 @@
 -- A read's answer: its list was lent behind five words, which are written last. Assumes nothing.
 use Prim.Native.Nat.{ℕ, ◌+◌, ◌-◌, ◌≤◌}
+use Rattle.std.specs.Prelude.{Result, Ok, Err}
+use Rattle.error.specs.Answers.{number_of}
+use Rattle.error.specs.declared.Refusal.{Refusal}
 use mathlib.Core.Bool.{Bool, true, false}
 use mathlib.Core.List.{List, [], ◌∷◌, ◌++◌}
 use mathlib.Core.Path.{◌≡◌, refl, ap, ◌∙◌}
@@ -21,7 +24,6 @@ use Rattle.book.specs.Book.{Book, word_of, on_key, seen}
 use Rattle.book_read.specs.Reads.{reads, list_after}
 use Rattle.book_read.specs.Answers.{Counted, read_answer, counted_of}
 use Rattle.book_read.specs.declared.answers.BookRead.{BookRead}
-use Rattle.book_read.specs.declared.answers.BookRead.TheVariants.{Listed, Refused as NotRead}
 use Rattle.book_words.specs.SpellAnswers.{spell_told, spell_answer}
 use Rattle.book_calls.specs.Steps.{Answered, read_words, read_len}
 
@@ -75,30 +77,30 @@ module _ (b : Book) (key room : ℕ) (out : List ℕ) (h : 5 + room ≤ length o
   mid_room = simp (length-take, length-drop) (omega arith)
 
   -- what is known of the list and of the answer, by what the read answers
-  pub record Put (a : Answer List-told) (answer : BookRead) (part : List ℕ) : Type 0 where
+  pub record Put (a : Answer List-told) (answer : Result BookRead Refusal) (part : List ℕ) : Type 0 where
     pub same : length (put_mid 5 (5 + room - 5) out part) ≡ length out
     pub long : read_len answer ≤ 5 + room
     pub said : (len : ℕ) → len ≡ read_len answer
         → Answered (answered listed a) out (overwrite (put_mid 5 (5 + room - 5) out part) 0 (read_words answer)) len
 
-  put_turned : (number : ℕ) (answer : BookRead) (part : List ℕ) → read_answer answer ≡ refused number → part ≡ mid
+  put_turned : (number : ℕ) (answer : Result BookRead Refusal) (part : List ℕ) → read_answer answer ≡ refused number → part ≡ mid
       → Put (refused number) answer part
   unfolding answered spell_answer
-  put_turned number (Listed count pages padded) part e p = let z : ◌≡◌ {A = ℕ} 0 1 = cc in absurd (omega arith)
-  put_turned number (NotRead m) part e p =
-      let same : m ≡ number = cc in
+  put_turned number (Ok read) part e p = let z : ◌≡◌ {A = ℕ} 0 1 = cc in absurd (omega arith)
+  put_turned number (Err refusal) part e p =
+      let same : number_of refusal ≡ number = cc in
       let whole : put_mid 5 (5 + room - 5) out part ≡ out = ap (put_mid 5 (5 + room - 5) out) p ∙ put_same 5 (5 + room - 5) out in
       record { same = ap length whole; long = omega arith; said = λ len l. record { words = rw (whole, same); count = l } }
 
-  put_told : (l : List-told) (answer : BookRead) (part : List ℕ) → length l.numbers ≤ room
+  put_told : (l : List-told) (answer : Result BookRead Refusal) (part : List ℕ) → length l.numbers ≤ room
       → read_answer answer ≡ accepted (record { length = length l.numbers; pages = l.pages; padded = l.padded })
       → part ≡ overwrite mid 0 l.numbers → Put (accepted l) answer part
   unfolding answered spell_answer spell_told
-  put_told l (Listed count pages padded) part fits e p =
-      let counts : count ≡ length l.numbers = ap (λ (x : Counted). x.length) (accepted_inj e) in
-      let walked : pages ≡ l.pages = ap (λ (x : Counted). x.pages) (accepted_inj e) in
-      let more : padded ≡ l.padded = ap (λ (x : Counted). x.padded) (accepted_inj e) in
-      let all : 5 + count ≡ length (0 ∷ 2 ∷ l.pages ∷ l.padded ∷ length l.numbers ∷ l.numbers) = omega (arith, counts) in
+  put_told l (Ok read) part fits e p =
+      let counts : read.length ≡ length l.numbers = ap (λ (x : Counted). x.length) (accepted_inj e) in
+      let walked : read.pages ≡ l.pages = ap (λ (x : Counted). x.pages) (accepted_inj e) in
+      let more : read.padded ≡ l.padded = ap (λ (x : Counted). x.padded) (accepted_inj e) in
+      let all : 5 + read.length ≡ length (0 ∷ 2 ∷ l.pages ∷ l.padded ∷ length l.numbers ∷ l.numbers) = omega (arith, counts) in
       let placed : put_mid 5 (5 + room - 5) out part ≡ overwrite out 5 l.numbers =
       ap (put_mid 5 (5 + room - 5) out) p ∙ overwrite_part out 5 (5 + room - 5) 0 l.numbers (omega arith) (omega arith) in
       let spelled = before_words out l.numbers 0 2 l.pages l.padded (length l.numbers) (omega arith) in
@@ -107,16 +109,16 @@ module _ (b : Book) (key room : ℕ) (out : List ℕ) (h : 5 + room ≤ length o
         long = omega (arith, counts);
         said = λ len s. record { words = rw (placed, counts, walked, more) spelled; count = s ∙ all };
       }
-  put_told l (NotRead m) part fits e p = let z : ◌≡◌ {A = ℕ} 0 1 = cc in absurd (omega arith)
+  put_told l (Err refusal) part fits e p = let z : ◌≡◌ {A = ℕ} 0 1 = cc in absurd (omega arith)
 
-  put_as : (a : Answer List-told) → ReadsAs room a → (answer : BookRead) (part : List ℕ)
+  put_as : (a : Answer List-told) → ReadsAs room a → (answer : Result BookRead Refusal) (part : List ℕ)
       → read_answer answer ≡ answered counted_of a → part ≡ list_after mid a → Put a answer part
   unfolding answered list_after
   put_as (refused number) turned answer part e p = put_turned number answer part e p
   put_as (accepted l) (told _ fits) answer part e p = put_told l answer part fits e p
 
   -- The answer and the list of a read make up the answer's words.
-  pub put_reads : (answer : BookRead) (part : List ℕ) → read_answer answer ≡ answered counted_of (reads b key (length mid))
+  pub put_reads : (answer : Result BookRead Refusal) (part : List ℕ) → read_answer answer ≡ answered counted_of (reads b key (length mid))
       → part ≡ list_after mid (reads b key (length mid))
       → Put (reads b key room) answer part
   put_reads answer part e p =

@@ -1,5 +1,6 @@
 -- The steps of reading the words of calls. Assumes nothing.
 use Prim.Native.Nat.{ℕ, ◌+◌, ◌-◌, ◌≤◌, ◌<◌}
+use Rattle.std.specs.Prelude.{Some, None}
 use mathlib.Core.Bool.{Bool, true, false, cond, false≢true}
 use mathlib.Core.List.{List, [], ◌∷◌}
 use mathlib.Core.Logic.{⊎_elim}
@@ -17,30 +18,28 @@ use Rattle.book_words.specs.SpellCalls.{is_load, fit_of, load_of, call_of, call_
 use Rattle.book_words.proofs.LawsWords.{some_inj, none≢some}
 use Rattle.book_words.proofs.LawsCalls.{calls_none, calls_some, call_at_lem}
 use Rattle.book_calls.specs.Steps.{is_some, NextIs, need_of, RoomIs}
-use Rattle.book_calls.specs.declared.words.NextCall.TheVariants.{At, Nowhere}
-use Rattle.book_calls.specs.declared.words.RoomLeft.TheVariants.{Words, TooLittle}
 
 -- ---- the index behind a call
 
 -- no call begins at an index
-pub nowhere : (calls : List ℕ) (at : ℕ) → call_at (behind at calls) ≡ none → NextIs calls at (call_at (behind at calls)) Nowhere
+pub nowhere : (calls : List ℕ) (at : ℕ) → call_at (behind at calls) ≡ none → NextIs calls at (call_at (behind at calls)) None
 unfolding NextIs
 nowhere calls at e = rw e tt
 
 -- a call begins there, and these are the words behind it
 pub somewhere : (calls : List ℕ) (at next : ℕ) (b : Begins SpelledCall) → call_at (behind at calls) ≡ some b → b.rest ≡ behind next calls
     → at + 3 ≤ next → next ≤ length calls
-    → NextIs calls at (call_at (behind at calls)) (At next)
+    → NextIs calls at (call_at (behind at calls)) (Some next)
 unfolding NextIs
 somewhere calls at next b e r l m = rw e (r, l, m)
 
 -- what the two answers tell
-pub was_nowhere : (calls : List ℕ) (at : ℕ) (o : Option (Begins SpelledCall)) → NextIs calls at o Nowhere → o ≡ none
+pub was_nowhere : (calls : List ℕ) (at : ℕ) (o : Option (Begins SpelledCall)) → NextIs calls at o None → o ≡ none
 unfolding NextIs
 was_nowhere calls at none n = refl
 was_nowhere calls at (some b) n = absurd n
 
-pub was_somewhere : (calls : List ℕ) (at next : ℕ) (o : Option (Begins SpelledCall)) → NextIs calls at o (At next)
+pub was_somewhere : (calls : List ℕ) (at next : ℕ) (o : Option (Begins SpelledCall)) → NextIs calls at o (Some next)
     → (b : Begins SpelledCall) × (o ≡ some b) × (b.rest ≡ behind next calls) × (at + 3 ≤ next) × (next ≤ length calls)
 unfolding NextIs
 was_somewhere calls at next none n = absurd n
@@ -97,30 +96,30 @@ module _ (calls : List ℕ) (at : ℕ) (three : at + 3 ≤ length calls) where
   words_left : length rest ≡ length calls - (at + 3)
   words_left = length-drop (at + 3) calls
 
-  pub next_unspelled : call_of kind key third rest ≡ none → NextIs calls at (call_at (behind at calls)) Nowhere
+  pub next_unspelled : call_of kind key third rest ≡ none → NextIs calls at (call_at (behind at calls)) None
   next_unspelled e = nowhere calls at (call_at_lem calls at three ∙ e)
 
-  pub next_load_short : is_load kind ≡ true → length calls - (at + 3) < third → NextIs calls at (call_at (behind at calls)) Nowhere
+  pub next_load_short : is_load kind ≡ true → length calls - (at + 3) < third → NextIs calls at (call_at (behind at calls)) None
   next_load_short e l = next_unspelled (of_load kind key third rest e ∙ rw (lt-leb third (length rest) (omega (arith, words_left))))
 
-  pub next_load : is_load kind ≡ true → third ≤ length calls - (at + 3) → NextIs calls at (call_at (behind at calls)) (At (at + 3 + third))
+  pub next_load : is_load kind ≡ true → third ≤ length calls - (at + 3) → NextIs calls at (call_at (behind at calls)) (Some (at + 3 + third))
   next_load e l =
       somewhere calls at (at + 3 + third) (record { first = load (fit_of kind) key (first_of third rest); rest = behind third rest })
       (call_at_lem calls at three ∙ of_load kind key third rest e ∙ rw (le-leb third (length rest) (omega (arith, words_left))))
       (drop-drop third (at + 3) calls) (omega arith) (omega arith)
 
-  pub next_other : is_load kind ≡ false → 3 < kind → NextIs calls at (call_at (behind at calls)) Nowhere
+  pub next_other : is_load kind ≡ false → 3 < kind → NextIs calls at (call_at (behind at calls)) None
   next_other l h = next_unspelled (of_other kind key third rest l h)
 
-  pub next_drop_bad : kind ≡ 3 → (third ≡ 0 → ⊥) → NextIs calls at (call_at (behind at calls)) Nowhere
+  pub next_drop_bad : kind ≡ 3 → (third ≡ 0 → ⊥) → NextIs calls at (call_at (behind at calls)) None
   next_drop_bad e n = next_unspelled (of_drop kind key third rest e ∙ rw (ne_eqb third 0 n))
 
-  pub next_drop : kind ≡ 3 → third ≡ 0 → NextIs calls at (call_at (behind at calls)) (At (at + 3))
+  pub next_drop : kind ≡ 3 → third ≡ 0 → NextIs calls at (call_at (behind at calls)) (Some (at + 3))
   next_drop e z =
       somewhere calls at (at + 3) (record { first = drop key; rest = rest })
       (call_at_lem calls at three ∙ of_drop kind key third rest e ∙ rw (eq-eqb third 0 z)) refl (omega arith) (omega arith)
 
-  pub next_plain : is_load kind ≡ false → kind ≤ 3 → (kind ≡ 3 → ⊥) → NextIs calls at (call_at (behind at calls)) (At (at + 3))
+  pub next_plain : is_load kind ≡ false → kind ≤ 3 → (kind ≡ 3 → ⊥) → NextIs calls at (call_at (behind at calls)) (Some (at + 3))
   next_plain n l m = ⊎_elim appends reads (lt_or_ge kind 2)
     where
       low : kind < 2 → kind ≡ 1
@@ -129,12 +128,12 @@ module _ (calls : List ℕ) (at : ℕ) (three : at + 3 ≤ length calls) where
       high : 2 ≤ kind → kind ≡ 2
       high h = ⊎_elim (λ (p : kind < 3). omega arith) (λ (q : 3 ≤ kind). absurd (m (omega arith))) (lt_or_ge kind 3)
 
-      appends : kind < 2 → NextIs calls at (call_at (behind at calls)) (At (at + 3))
+      appends : kind < 2 → NextIs calls at (call_at (behind at calls)) (Some (at + 3))
       appends h =
           let is = call_at_lem calls at three ∙ of_append kind key third rest (low h) in
           somewhere calls at (at + 3) _ is refl (omega arith) (omega arith)
 
-      reads : 2 ≤ kind → NextIs calls at (call_at (behind at calls)) (At (at + 3))
+      reads : 2 ≤ kind → NextIs calls at (call_at (behind at calls)) (Some (at + 3))
       reads h =
           let is = call_at_lem calls at three ∙ of_read kind key third rest (high h) in
           somewhere calls at (at + 3) _ is refl (omega arith) (omega arith)
@@ -193,27 +192,27 @@ room_of k key third rest b e = go (is_load k) refl
 
 -- the room that is left, by the kind of the call
 module _ (k third left : ℕ) where
-  pub read_short : k ≡ 2 → left < 5 + third → RoomIs (need_of k third) left TooLittle
+  pub read_short : k ≡ 2 → left < 5 + third → RoomIs (need_of k third) left None
   unfolding RoomIs need_of
   read_short e l = rw e l
 
-  pub read_fits : k ≡ 2 → 5 + third ≤ left → RoomIs (need_of k third) left (Words (left - 5 - third))
+  pub read_fits : k ≡ 2 → 5 + third ≤ left → RoomIs (need_of k third) left (Some (left - 5 - third))
   unfolding RoomIs need_of
   read_fits e l = rw e (omega arith)
 
-  pub append_short : k ≡ 1 → left < 7 → RoomIs (need_of k third) left TooLittle
+  pub append_short : k ≡ 1 → left < 7 → RoomIs (need_of k third) left None
   unfolding RoomIs need_of
   append_short e l = rw e l
 
-  pub append_fits : k ≡ 1 → 7 ≤ left → RoomIs (need_of k third) left (Words (left - 7))
+  pub append_fits : k ≡ 1 → 7 ≤ left → RoomIs (need_of k third) left (Some (left - 7))
   unfolding RoomIs need_of
   append_fits e l = rw e (omega arith)
 
-  pub other_short : (k ≡ 2 → ⊥) → (k ≡ 1 → ⊥) → left < 3 → RoomIs (need_of k third) left TooLittle
+  pub other_short : (k ≡ 2 → ⊥) → (k ≡ 1 → ⊥) → left < 3 → RoomIs (need_of k third) left None
   unfolding RoomIs need_of
   other_short n m l = rw (ne_eqb k 2 n, ne_eqb k 1 m) l
 
-  pub other_fits : (k ≡ 2 → ⊥) → (k ≡ 1 → ⊥) → 3 ≤ left → RoomIs (need_of k third) left (Words (left - 3))
+  pub other_fits : (k ≡ 2 → ⊥) → (k ≡ 1 → ⊥) → 3 ≤ left → RoomIs (need_of k third) left (Some (left - 3))
   unfolding RoomIs need_of
   other_fits n m l = rw (ne_eqb k 2 n, ne_eqb k 1 m) (omega arith)
 
@@ -233,17 +232,17 @@ module _ (calls : List ℕ) (at : ℕ) (inside : at < length calls) where
   left_words : 0 < length (behind at calls)
   left_words = simp length-drop (omega arith)
 
-  pub spelled_nowhere : NextIs calls at (call_at (behind at calls)) Nowhere → calls_of (behind at calls) ≡ none
+  pub spelled_nowhere : NextIs calls at (call_at (behind at calls)) None → calls_of (behind at calls) ≡ none
   spelled_nowhere n = calls_none (behind at calls) left_words (was_nowhere calls at _ n)
 
-  pub spelled_on : (next : ℕ) → NextIs calls at (call_at (behind at calls)) (At next)
+  pub spelled_on : (next : ℕ) → NextIs calls at (call_at (behind at calls)) (Some next)
       → (b : Begins SpelledCall) × (call_at (behind at calls) ≡ some b)
       × (calls_of (behind at calls) ≡ before b.first (calls_of (behind next calls)))
   spelled_on next n =
       let (b, e, r, l, m) = was_somewhere calls at next _ n in
       (b, e, calls_some (behind at calls) b left_words e ∙ ap (λ (ws : List ℕ). before b.first (calls_of ws)) r)
 
-  pub spelled_next : (next : ℕ) → NextIs calls at (call_at (behind at calls)) (At next)
+  pub spelled_next : (next : ℕ) → NextIs calls at (call_at (behind at calls)) (Some next)
       → is_some (calls_of (behind at calls)) ≡ is_some (calls_of (behind next calls))
   spelled_next next n = let (b, e, s) = spelled_on next n in ap is_some s ∙ before_some b.first (calls_of (behind next calls))
 
@@ -274,10 +273,10 @@ module _ {calls : List ℕ} {room at left : ℕ} {cs : List SpelledCall} (f : Fi
       sym (le-leb (answers_room cs) room (omega (arith, f.used)))
 
   -- no call begins, which can't be
-  pub fit_nowhere : at < length calls → NextIs calls at (call_at (behind at calls)) Nowhere → ⊥
+  pub fit_nowhere : at < length calls → NextIs calls at (call_at (behind at calls)) None → ⊥
   fit_nowhere h n = none≢some (sym (spelled_nowhere calls at h n) ∙ f.spelled)
 
-  module _ (h : at < length calls) (next : ℕ) (n : NextIs calls at (call_at (behind at calls)) (At next)) where
+  module _ (h : at < length calls) (next : ℕ) (n : NextIs calls at (call_at (behind at calls)) (Some next)) where
     abbrev need : ℕ
     need = need_of (get_or calls at 0) (get_or calls (at + 2) 0)
 

@@ -1,5 +1,5 @@
 -- What running a list of calls on a fresh book answers, told by the plain book alone.
-use Rattle.std.specs.Prelude.{ℕ, ◌≤◌, ◌<◌, cond, List, [], ◌≡◌, leb, length}
+use Rattle.std.specs.Prelude.{ℕ, ◌≤◌, ◌<◌, cond, List, [], ◌≡◌, leb, length, Result, Ok, Err}
 use Rattle.std.proofs.Math.Option.{Option, none, some}
 use Rattle.error.specs.Refusal.{Answer, accepted, refused, list_too_short}
 use Rattle.buffer.specs.Bytes.{overwrite}
@@ -14,22 +14,36 @@ use Rattle.book_history.specs.Calls.{after}
 use Rattle.book_history.specs.Standing.{Standing}
 use Rattle.book_words.specs.SpellCalls.{calls_of, answers_room}
 use Rattle.book_words.specs.SpellAnswers.{spell_answers}
-use Rattle.book_calls.specs.declared.runs.RunCalls.{RunCalls}
-use Rattle.book_calls.specs.declared.runs.RunCalls.TheVariants.{Ran, Unspelled, Refused}
+use Rattle.error.specs.Answers.{number_of}
+use Rattle.error.specs.declared.Refusal.{Refusal}
+use Rattle.book_calls.specs.declared.runs.NotRun.{NotRun}
+use Rattle.book_calls.specs.declared.runs.NotRun.TheVariants.{Unspelled, Refused}
+
+-- What running calls tells: how many words the answers have, that the words spell no list of calls, or the number of a refusal.
+pub data RunTold : Type 0 where
+  ran : ℕ → RunTold
+  unspelled : RunTold
+  not_run : ℕ → RunTold
+
+-- The same of the answer of `run_calls`.
+abbrev pub run_told : Result ℕ NotRun → RunTold
+run_told (Ok len) = ran len
+run_told (Err Unspelled) = unspelled
+run_told (Err (Refused refusal)) = not_run (number_of refusal)
 
 -- The words of a plain book's answers to some calls.
 abbrev pub plain_words : PlainBook → List SpelledCall → List ℕ
 plain_words p cs = spell_answers (flat cs (plain_answers p (calls_in cs)))
 
 -- What `run_calls` answers where there is room, by the plain book that is made: how many words the answers have, or why it isn't made.
-unfoldable pub ran_on : Answer PlainBook → List SpelledCall → RunCalls
-ran_on (accepted p) cs = Ran (length (plain_words p cs))
-ran_on (refused number) cs = Refused number
+unfoldable pub ran_on : Answer PlainBook → List SpelledCall → RunTold
+ran_on (accepted p) cs = ran (length (plain_words p cs))
+ran_on (refused number) cs = not_run number
 
 -- What `run_calls` answers, by the calls that its words spell: how many words the answers have, or why nothing was run.
-unfoldable pub runs : Answer PlainBook → ℕ → Option (List SpelledCall) → RunCalls
-runs made room none = Unspelled
-runs made room (some cs) = cond (leb (answers_room cs) room) (ran_on made cs) (Refused list_too_short)
+unfoldable pub runs : Answer PlainBook → ℕ → Option (List SpelledCall) → RunTold
+runs made room none = unspelled
+runs made room (some cs) = cond (leb (answers_room cs) room) (ran_on made cs) (not_run list_too_short)
 
 -- What the list of answers holds afterwards where there is room: their words at its start, or what it held where no book is made.
 unfoldable pub words_on : List ℕ → Answer PlainBook → List SpelledCall → List ℕ
@@ -72,9 +86,9 @@ recorded_for key p cs = recorded key (plain_answers p (calls_in cs)) []
 
 -- The contract of `run_calls`, on a list of desks, a book, the words of calls and a list for answers, with the book and the list
 -- afterwards.
-pub record Runs (ds : List ℕ) (b : Book) (calls out : List ℕ) (r : RunCalls) (ended : Book) (out' : List ℕ) : Type 0 where
+pub record Runs (ds : List ℕ) (b : Book) (calls out : List ℕ) (r : Result ℕ NotRun) (ended : Book) (out' : List ℕ) : Type 0 where
   -- The answer, and the words of the answers: those of the plain book.
-  pub answer : r ≡ runs (plain_made ds b) (length out) (calls_of calls)
+  pub answer : run_told r ≡ runs (plain_made ds b) (length out) (calls_of calls)
   pub words : out' ≡ words_after out (plain_made ds b) (calls_of calls)
   -- The book afterwards, whichever way it ends.
   pub left : ended ≡ left_by ds b (length out) (calls_of calls)

@@ -7,4 +7,4 @@ mod running;
 mod runs;
 mod words;
 
-pub use runs::{RunCalls, run_calls};
+pub use runs::{NotRun, run_calls};

@@ -12,7 +12,7 @@ ghost use Rattle.book_words.specs.SpellCalls.{call_at, calls_of};
 ghost use Rattle.book_calls.specs.Steps.{Answered, Done, CallHere, Spelled, AllDone};
 
 use crate::answers::{put_append, put_drop, put_load, put_read};
-use crate::words::{APPEND, NextCall, READ, fit_of, is_load, next_call};
+use crate::words::{APPEND, READ, fit_of, is_load, next_call};
 use book_desks::desk_of;
 use book_rules::SlabFit;
 
@@ -163,9 +163,9 @@ pub fn run_spelled(
 {
     let mut at: usize = 0;
     let mut to: usize = 0;
+    // The step isn't one: each turn goes on by the words of a call, so no range counts it.
     while at < calls.len() {
-        let next = next_call(calls, at);
-        let NextCall::At(behind) = next else {
+        let Some(behind) = next_call(calls, at) else {
             return to;
         };
         to += run_call(

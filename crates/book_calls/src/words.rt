@@ -18,22 +18,6 @@ pub const DROP: u64 = 3;
 
 pub const LOAD_TIGHT: u64 = 4;
 
-// Where the call behind one begins.
-#[derive(Clone, Copy)]
-pub enum NextCall {
-    At(usize),
-    // No call begins here.
-    Nowhere,
-}
-
-// What room is left for answers.
-#[derive(Clone, Copy)]
-pub enum RoomLeft {
-    Words(u64),
-    // The answer may have more words than there is room for.
-    TooLittle,
-}
-
 // Whether a kind is that of a load, whose numbers stand behind its third word.
 pub fn is_load(kind: u64) -> bool
     ensures { result ≡ is_load kind }
@@ -54,32 +38,32 @@ pub fn fit_of(kind: u64) -> SlabFit
     SlabFit::Tight
 }
 
-// Where the call behind the one at an index begins.
-pub fn next_call(calls: &[u64], at: usize) -> NextCall
+// Where the call behind the one at an index begins; nowhere where no call begins at the index.
+pub fn next_call(calls: &[u64], at: usize) -> Option<usize>
     requires { at ≤ length calls.now }
     ensures { NextIs calls.now at (call_at (drop at calls.now)) result }
 {
     if calls.len() - at < 3 {
-        return NextCall::Nowhere;
+        return None;
     }
     let kind = calls[at];
     let third = calls[at + 2];
     let from = at + 3;
     if is_load(kind) {
         if ((calls.len() - from) as u64) < third {
-            return NextCall::Nowhere;
+            return None;
         }
-        return NextCall::At(from + third as usize);
+        return Some(from + third as usize);
     }
     if DROP < kind {
-        return NextCall::Nowhere;
+        return None;
     }
     if kind == DROP {
         if third != 0 {
-            return NextCall::Nowhere;
+            return None;
         }
     }
-    NextCall::At(from)
+    Some(from)
 }
 
 // Whether some words spell a list of calls.
@@ -87,9 +71,9 @@ pub fn calls_spelled(calls: &[u64]) -> bool
     ensures { result ≡ is_some (calls_of calls.now) }
 {
     let mut at: usize = 0;
+    // The step isn't one: each turn goes on by the words of a call, so no range counts it.
     while at < calls.len() {
-        let next = next_call(calls, at);
-        let NextCall::At(behind) = next else {
+        let Some(behind) = next_call(calls, at) else {
             return false;
         };
         at = behind;
@@ -97,29 +81,30 @@ pub fn calls_spelled(calls: &[u64]) -> bool
     true
 }
 
-// The room that is left behind the answer to a call of a kind with a third word, a read's room counted in full.
-fn room_behind(kind: u64, third: u64, left: u64) -> RoomLeft
+// The room that is left behind the answer to a call of a kind with a third word, a read's room counted in full; none where the answer may
+// have more words than there is room for.
+fn room_behind(kind: u64, third: u64, left: u64) -> Option<u64>
     ensures { RoomIs (need_of kind third) left result }
 {
     if kind == READ {
         if left < 5 {
-            return RoomLeft::TooLittle;
+            return None;
         }
         if left - 5 < third {
-            return RoomLeft::TooLittle;
+            return None;
         }
-        return RoomLeft::Words(left - 5 - third);
+        return Some(left - 5 - third);
     }
     if kind == APPEND {
         if left < 7 {
-            return RoomLeft::TooLittle;
+            return None;
         }
-        return RoomLeft::Words(left - 7);
+        return Some(left - 7);
     }
     if left < 3 {
-        return RoomLeft::TooLittle;
+        return None;
     }
-    RoomLeft::Words(left - 3)
+    Some(left - 3)
 }
 
 // Whether the answers to the calls that some words spell have room, however long they are.
@@ -129,13 +114,12 @@ pub fn calls_fit(calls: &[u64], room: usize) -> bool
 {
     let mut left = room as u64;
     let mut at: usize = 0;
+    // The step isn't one: each turn goes on by the words of a call, so no range counts it.
     while at < calls.len() {
-        let next = next_call(calls, at);
-        let NextCall::At(behind) = next else {
+        let Some(behind) = next_call(calls, at) else {
             return false;
         };
-        let answered = room_behind(calls[at], calls[at + 2], left);
-        let RoomLeft::Words(rest) = answered else {
+        let Some(rest) = room_behind(calls[at], calls[at + 2], left) else {
             return false;
         };
         left = rest;

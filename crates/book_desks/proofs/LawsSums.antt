@@ -1,13 +1,19 @@
 -- Laws of sums over the numbers below another, and of tests of each of them. Assumes nothing.
 use Prim.Native.Nat.{ℕ, zero, suc, ◌+◌, ◌*◌, ◌≤◌, ◌<◌}
-use mathlib.Core.Bool.{Bool, true, false}
+use mathlib.Core.Bool.{Bool, true, false, ◌||◌}
+use mathlib.Core.List.{List}
 use mathlib.Core.Logic.{◌≢◌, ◌⊎◌, inl, inr, ⊎_elim}
-use mathlib.Core.Path.{◌≡◌, refl, sym, subst}
+use mathlib.Core.Path.{◌≡◌, refl, sym, ap, ◌∙◌, subst}
 use native.Mathlib.Nat.{suc-mul}
 use native.Mathlib.Numerals.{add-one}
 use native.Mathlib.Omega.{arith}
 use borrow.Author.Tests.{ltb-false, le-ltb, eqb-true, eqb-false}
 use lib.Dec.{ltb, eqb}
+use lib.ListN.{length, get_or, take, drop, length-drop}
+use Rattle.std.specs.List.{sum, list_any}
+use Rattle.std.proofs.lemmas.List.{get_or-drop}
+use Rattle.std.proofs.lemmas.List.Folds.{list_any_more}
+use Rattle.std.proofs.lemmas.List.Sums.{sum_by_more}
 use Rattle.error.proofs.LawsAnswer.{neither}
 use Rattle.book_desks.specs.Desks.{sum_to, above}
 
@@ -53,6 +59,18 @@ sum_most (suc n) most f less =
     let h : sum_to n f ≤ n * most = sum_most n most f (λ i k. less i (omega arith)) in
     let k : f n ≤ most = less n (omega arith) in
     let m : suc n * most ≡ n * most + most = suc-mul n most in
+    omega arith
+
+-- The sum of a part of a list is that of its numbers, by their places.
+pub sum_part : (n from : ℕ) (xs : List ℕ) → from + n ≤ length xs → sum (take n (drop from xs)) ≡ sum_to n (λ i. get_or xs (from + i) 0)
+unfolding sum_to
+sum_part zero from xs h = refl
+sum_part (suc n) from xs h =
+    let long : n < length (drop from xs) = omega (arith, length-drop from xs) in
+    let more : sum (take (suc n) (drop from xs)) ≡ sum (take n (drop from xs)) + get_or (drop from xs) n 0
+    = rw (← add-one n) (sum_by_more (λ x. x) (drop from xs) n 0 long) in
+    let before : sum (take n (drop from xs)) ≡ sum_to n (λ i. get_or xs (from + i) 0) = sum_part n from xs (omega arith) in
+    let at : get_or (drop from xs) n 0 ≡ get_or xs (from + n) 0 = get_or-drop from xs n 0 in
     omega arith
 
 -- Sums of functions that agree are equal.
@@ -122,12 +140,11 @@ above_yes most n f i h over = go (above most n f) refl
     go true e = e
     go false e = let q : f i ≤ most = above_no most n f e i h in absurd (omega arith)
 
--- One more that isn't above a limit changes nothing.
-pub above_step : (most i : ℕ) (f : ℕ → ℕ) → above most i f ≡ false → f i ≤ most → above most (i + 1) f ≡ false
+-- Some of the first numbers of a list is above a limit: by their places.
+pub above_list : (most n : ℕ) (xs : List ℕ) → n ≤ length xs → list_any (ltb most) (take n xs) ≡ above most n (λ i. get_or xs i 0)
 unfolding above
-above_step most i f e h = rw (add-one i, e) (le-ltb most (f i) h)
-
--- Of none, none is above a limit.
-pub above_none : (most : ℕ) (f : ℕ → ℕ) → above most 0 f ≡ false
-unfolding above
-above_none most f = refl
+above_list most zero xs h = refl
+above_list most (suc n) xs h =
+    rw (← add-one n)
+    (list_any_more (ltb most) xs n 0 (omega arith)
+    ∙ ap (λ (t : Bool). t || ltb most (get_or xs n 0)) (above_list most n xs (omega arith)))

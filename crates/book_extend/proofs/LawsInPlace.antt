@@ -20,8 +20,8 @@ use Rattle.book_blocks.specs.Blocks.{slab_with, total_with, page_with}
 use Rattle.book.specs.Book.{Outcome, head_word}
 use Rattle.book.specs.Answers.{book_of}
 use Rattle.book_append.specs.Steps.{KeyKnown}
-use Rattle.book_extend.specs.Extends.{Extended}
-use Rattle.book_extend.specs.Steps.{PageTakes, SlabTakes, Extending}
+use Rattle.book_extend.specs.Extends.{Extended, standing}
+use Rattle.book_extend.specs.Steps.{PageTakes, SlabTakes, Extending, Stopped, InPlace}
 use Rattle.book_extend.proofs.LawsWords.{put_told, slab_low, extent_low}
 use Rattle.book_extend.proofs.LawsPage.{PageEnds, page_ends}
 use Rattle.book_extend.proofs.LawsSlab.{SlabEnds, slab_ends}
@@ -65,6 +65,14 @@ put_none body heads mark key ns i place left stands =
       stands = stands;
       goes = λ desk free counts known whole moves rewritten x. x;
     }
+
+-- The numbers so far went where a sound key stands, and the next doesn't.
+pub put_reached : {body₀ heads₀ : List ℕ} {mark key : ℕ} {ns : List ℕ} {i₀ : ℕ} {body heads : List ℕ} {i : ℕ} {place : ShHeadValue}
+    → (from : ShHeadValue) → ((free counts : List ℕ) → standing (book_of body₀ heads₀ mark free counts) key ≡ accepted from)
+    → Put body₀ heads₀ mark key ns i₀ body heads i place → Stopped body heads mark key ns i
+    → InPlace body₀ heads₀ mark key ns i₀ body heads i
+put_reached from sound p stop =
+    record { later = p.later; within = p.within; place = from; sound = sound; goes = p.goes; stopped = stop }
 
 module _ {body₀ heads₀ : List ℕ} {mark key : ℕ} {ns : List ℕ} {i₀ : ℕ} {body heads : List ℕ} {i : ℕ} where
   -- The last page takes the next number.

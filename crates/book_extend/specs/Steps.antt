@@ -1,6 +1,8 @@
 -- What the steps of an extend promise each other: no answer of a public function is defined here.
-use Rattle.std.specs.Prelude.{ℕ, ◌+◌, ◌-◌, ◌*◌, ◌^◌, ◌≤◌, ◌<◌, true, false, List, ◌≡◌, length, get_or, drop}
+use Rattle.std.specs.Prelude.{ℕ, ◌+◌, ◌-◌, ◌*◌, ◌^◌, ◌≤◌, ◌<◌, true, false, List, ◌≡◌, length, get_or, drop, Result, Ok, Err}
 use Rattle.error.specs.Refusal.{accepted, refused, key_unsound}
+use Rattle.error.specs.Answers.{number_of}
+use Rattle.error.specs.declared.Refusal.{Refusal}
 use Rattle.compact.specs.Uleb128.{uleb_len}
 use Rattle.scripthash_layout.specs.Sizes.{page_size}
 use Rattle.scripthash_layout.specs.Head.{unpack_head}
@@ -16,8 +18,6 @@ use Rattle.book.specs.Book.{Book, Outcome, word_of, seen}
 use Rattle.book.specs.Answers.{book_of}
 use Rattle.book_append.specs.Steps.{KeyKnown, ToAppend}
 use Rattle.book_extend.specs.Extends.{Extended, extended, extend_from, standing}
-use Rattle.book_extend.specs.declared.answers.Reached.{Reached}
-use Rattle.book_extend.specs.declared.answers.Reached.TheVariants.{To, Unsound}
 
 -- ---- a number that stays where its key stands
 
@@ -114,9 +114,10 @@ pub record NotSound (body heads : List ℕ) (mark key : ℕ) (body' heads' : Lis
   pub heads_kept : heads' ≡ heads
 
 -- How far numbers from an index on went into the block where a key stands.
-abbrev pub Reaches : List ℕ → List ℕ → ℕ → ℕ → List ℕ → ℕ → List ℕ → List ℕ → Reached → Type 0
-Reaches body heads mark key ns i body' heads' (To j) = InPlace body heads mark key ns i body' heads' j
-Reaches body heads mark key ns i body' heads' Unsound = NotSound body heads mark key body' heads'
+abbrev pub Reaches : List ℕ → List ℕ → ℕ → ℕ → List ℕ → ℕ → List ℕ → List ℕ → Result ℕ Refusal → Type 0
+Reaches body heads mark key ns i body' heads' (Ok j) = InPlace body heads mark key ns i body' heads' j
+Reaches body heads mark key ns i body' heads' (Err refusal) =
+    (number_of refusal ≡ key_unsound) × NotSound body heads mark key body' heads'
 
 -- ---- the whole
 

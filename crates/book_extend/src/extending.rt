@@ -1,4 +1,5 @@
 // Extending a key by many numbers, for a desk.
+// Sizes and numbers of 64 bits are cast with `as`, since Rust has no From between them: each cast is proved to fit.
 ghost use Rattle.std.specs.Prelude.{◌≡◌, ◌≤◌, ◌<◌, length};
 ghost use Rattle.error.specs.Refusal.{accepted};
 ghost use Rattle.scripthash_layout.specs.Head.{unpack_head};
@@ -7,17 +8,16 @@ ghost use Rattle.book_rules.specs.Outcomes.{book_after, answer_of};
 ghost use Rattle.book.specs.Book.{Outcome};
 ghost use Rattle.book.specs.Answers.{book_of};
 ghost use Rattle.book_extend.specs.Extends.{Extended as ExtendedTold, extended, moved, extends};
-ghost use Rattle.book_extend.specs.Answers.{extended_by, extend_answer};
+ghost use Rattle.book_extend.specs.Answers.{extended_by, extend_answer, refusal_number};
 ghost use Rattle.book_extend.specs.Steps.{Extending, Reaches, GoesOn, Begun, EndsAs};
 
-use crate::answers::{BookExtend, ExtendedBy, Reached};
+use crate::answers::ExtendedBy;
 use crate::page::extend_page;
 use crate::past::append_past;
 use crate::slab::extend_slab;
-use book_append::BookAppend;
 use book_desks::DESKS;
 use error::Refusal;
-use scripthash_layout::{ShHeadValue, Unpacked};
+use scripthash_layout::ShHeadValue;
 
 // Puts the numbers of a list from an index on into the block where a key stands, as many as it takes; of a key without one it takes none.
 fn extend_in_place(
@@ -27,18 +27,16 @@ fn extend_in_place(
     key: usize,
     fks: &[u64],
     from: usize,
-) -> Reached
+) -> Result<usize, Refusal>
     requires { (mark ≤ length body.old) × (key < length heads.old) × (from ≤ length fks.now) }
     ensures { Reaches body.old heads.old mark key fks.now from
         body.new heads.new result }
 {
-    let head = scripthash_layout::unpack8(heads[key]);
-    let Unpacked::Head(place) = head else {
-        return Reached::Unsound;
+    let Ok(place) = scripthash_layout::unpack8(heads[key]) else {
+        return Err(Refusal::KeyUnsound);
     };
     match place {
-        ShHeadValue::Empty => Reached::To(from),
-        ShHeadValue::Inline { entry: _, used: _ } => Reached::To(from),
+        ShHeadValue::Empty | ShHeadValue::Inline { .. } => Ok(from),
         ShHeadValue::Slab { class, used, off } => {
             extend_slab(body, heads, mark, key, class, used, off, fks, from)
         }
@@ -68,38 +66,27 @@ fn go_on(
     if book_space::shape_broken(body, heads.len(), mark) {
         return from;
     }
-    let reached = extend_in_place(body, heads, mark, key, fks, from);
-    match reached {
-        Reached::To(i) => i,
-        Reached::Unsound => from,
-    }
+    extend_in_place(body, heads, mark, key, fks, from).unwrap_or(from)
 }
 
 // The place that a head word tells, of one that tells a place.
 fn place_in(word: u64) -> ShHeadValue
     ensures { (place : HeadValue) → unpack_head word ≡ accepted place → result ≡ place }
 {
-    let head = scripthash_layout::unpack8(word);
-    match head {
-        Unpacked::Head(place) => place,
-        Unpacked::Refused(_) => ShHeadValue::Empty,
-    }
+    scripthash_layout::unpack8(word).unwrap_or(ShHeadValue::Empty)
 }
 
 // How many moves an append counts as that rewrote so many records.
 fn moved(rewritten: u64) -> u64
     ensures { result ≡ moved rewritten }
 {
-    if rewritten == 0 {
-        return 0;
-    }
-    1
+    u64::from(rewritten != 0)
 }
 
 // What is told of an extend, with the key's place as its head word tells it.
-fn told(count: usize, refusal: Refusal, word: u64, moves: u64, rewritten: u64) -> ExtendedBy
+fn told(count: usize, refusal: Option<Refusal>, word: u64, moves: u64, rewritten: u64) -> ExtendedBy
     ensures { (place : HeadValue) → unpack_head word ≡ accepted place
-        → extended_by result ≡ extended count refusal place moves rewritten }
+        → extended_by result ≡ extended count (refusal_number refusal) place moves rewritten }
 {
     let place = place_in(word);
     ExtendedBy {
@@ -131,19 +118,20 @@ fn append_from(
 {
     let at = key as usize;
     let mut i = from;
-    let mut moves: u64 = 0;
-    let mut rewritten: u64 = 0;
+    let mut moves = 0;
+    let mut rewritten = 0;
+    // The step isn't one: each turn goes on by as many numbers as the key's block takes behind the append, so no range counts it.
     while i < fks.len() {
         let n = fks[i];
-        let answer = append_past(body, heads, mark, free, counts, desk, key, n);
-        let BookAppend::Appended(to) = answer else {
-            return told(i, answer.refusal(), heads[at], moves, rewritten);
+        let to = match append_past(body, heads, mark, free, counts, desk, key, n) {
+            Ok(to) => to,
+            Err(refusal) => return told(i, Some(refusal), heads[at], moves, rewritten),
         };
         moves += moved(to.rewritten);
         rewritten += to.rewritten;
         i = go_on(body, heads, *mark, at, fks, i + 1);
     }
-    told(i, 0, heads[at], moves, rewritten)
+    told(i, None, heads[at], moves, rewritten)
 }
 
 // Extends a key by the numbers of a list, for a desk: the shape, the desk, whether there is such a key and whether it is sound are judged,
@@ -157,7 +145,7 @@ pub fn extend(
     desk: u64,
     key: u64,
     fks: &[u64],
-) -> BookExtend
+) -> Result<ExtendedBy, Refusal>
     ensures answer { extend_answer result
         ≡ answer_of (extends desk
         (book_of body.old heads.old mark.old free.old counts.old) key
@@ -169,18 +157,14 @@ pub fn extend(
         fks.now) }
 {
     if book_space::shape_broken(body, heads.len(), *mark) {
-        return BookExtend::Refused(error::SHAPE_BAD);
+        return Err(Refusal::ShapeBad);
     }
     if DESKS as u64 <= desk {
-        return BookExtend::Refused(error::DESKS_BAD);
+        return Err(Refusal::DesksBad);
     }
     if heads.len() as u64 <= key {
-        return BookExtend::Refused(error::KEY_BEYOND);
+        return Err(Refusal::KeyBeyond);
     }
-    let reached = extend_in_place(body, heads, *mark, key as usize, fks, 0);
-    let Reached::To(from) = reached else {
-        return BookExtend::Refused(error::KEY_UNSOUND);
-    };
-    let by = append_from(body, heads, mark, free, counts, desk, key, fks, from);
-    BookExtend::Extended(by)
+    let from = extend_in_place(body, heads, *mark, key as usize, fks, 0)?;
+    Ok(append_from(body, heads, mark, free, counts, desk, key, fks, from))
 }

@@ -4,9 +4,10 @@
 
 mod answers;
 mod extending;
+mod form;
 mod page;
 mod past;
 mod slab;
 
-pub use answers::{BookExtend, ExtendedBy};
+pub use answers::ExtendedBy;
 pub use extending::extend;

@@ -1,40 +1,33 @@
 // Numbers behind the stream of a key's last page, as many as it takes.
-ghost use Rattle.std.specs.Prelude.{◌≡◌, ◌+◌, ◌-◌, ◌^◌, ◌≤◌, ◌<◌};
+// Sizes and numbers of 64 bits are cast with `as`, since Rust has no From between them: each cast is proved to fit.
+ghost use Rattle.std.specs.Prelude.{◌+◌, ◌-◌, ◌^◌, ◌≤◌, ◌<◌, MatchOption};
 ghost use Rattle.compact.specs.Uleb128.{uleb_len};
 ghost use Rattle.scripthash_layout.specs.Sizes.{page_size};
 ghost use Rattle.scripthash_layout.specs.declared.head.ShHeadValue.TheVariants.{Extent};
 ghost use Rattle.book_extend.specs.Steps.{PageTakes, ToExtend, Reaches};
 
-use crate::answers::Reached;
+use crate::form::form_behind;
 use book_keys::TailEnd;
-use compact::uleb128_len;
+use error::Refusal;
+use scripthash_fields::SH_PAGE_EXTENT_HEADER_LEN;
 use scripthash_layout::{SH_PAGE_SIZE, ShHeadValue};
 
-// The bytes of a last page before its stream.
-const LAST_HEADER: usize = 24;
-// A book's numbers are below 2^62.
-const NUMBER_RANGE: u64 = 1 << 62;
-
-// The bytes of a number's form behind the last number of a page whose stream takes some bytes; 0 where the page doesn't take the number.
-fn form_in_page(n: u64, fk: u64, taken: usize) -> usize
+// The bytes of a number's form behind the last number of a page whose stream takes some bytes; none where the page doesn't take the number.
+fn form_in_page(n: u64, fk: u64, taken: usize) -> Option<usize>
     requires { 24 + taken ≤ page_size }
-    ensures yes { 0 < result → PageTakes n fk taken result }
-    ensures no { result ≡ 0 → fk < n → n < 2 ^ 62 → page_size < 24 + taken + uleb_len (n - fk) }
+    ensures { MatchOption result (fk < n → n < 2 ^ 62 → page_size < 24 + taken + uleb_len (n - fk))
+        (λ len. PageTakes n fk taken len) }
 {
-    if n <= fk {
-        return 0;
+    let len = form_behind(n, fk)?;
+    if SH_PAGE_SIZE < SH_PAGE_EXTENT_HEADER_LEN + taken + len {
+        return None;
     }
-    if NUMBER_RANGE <= n {
-        return 0;
-    }
-    let len = uleb128_len(n - fk);
-    if SH_PAGE_SIZE < LAST_HEADER + taken + len {
-        return 0;
-    }
-    len
+    Some(len)
 }
 
 // Puts the numbers of a list from an index on behind the stream of a key's last page, as many as it takes. The page is scanned once.
+// It isn't one function with `extend_slab` over a trait: what a turn writes differs in kind, and the trait's methods and laws would be
+// longer than both loops.
 pub fn extend_page(
     body: &mut [u8],
     heads: &mut [u64],
@@ -43,37 +36,30 @@ pub fn extend_page(
     last: u64,
     fks: &[u64],
     from: usize,
-) -> Reached
+) -> Result<usize, Refusal>
     requires { ToExtend body.old heads.old mark key fks.now from (Extent last) }
     ensures { Reaches body.old heads.old mark key fks.now from
         body.new heads.new result }
 {
-    let end = book_keys::tail_end(body, mark, last);
-    let TailEnd::Tail {
+    let TailEnd {
         taken,
         fk,
-        first: _,
         creates,
-    } = end
-    else {
-        return Reached::Unsound;
-    };
+        ..
+    } = book_keys::tail_end(body, mark, last)?;
     let mut at = taken;
     let mut prev = fk;
     let mut total = creates;
-    let mut i = from;
-    while i < fks.len() {
+    for i in from..fks.len() {
         let n = fks[i];
-        let len = form_in_page(n, prev, at);
-        if len == 0 {
-            return Reached::To(i);
-        }
+        let Some(len) = form_in_page(n, prev, at) else {
+            return Ok(i);
+        };
         book_blocks::grow_page(body, last as usize, at, n - prev, total);
         book::put_head(heads, key, ShHeadValue::Extent { last_page: last });
         at += len;
         prev = n;
         total = book_blocks::total_with(total);
-        i += 1;
     }
-    Reached::To(i)
+    Ok(fks.len())
 }

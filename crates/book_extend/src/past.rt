@@ -1,5 +1,6 @@
 // Appends of numbers that don't stay where their key stands: the list moves, a chain gets a page more, or the number is refused. They stand
 // apart from `book_append::append` for speed: a second caller would take that one out of line, and each single append would pay for it.
+// Sizes and numbers of 64 bits are cast with `as`, since Rust has no From between them: each cast is proved to fit.
 ghost use Rattle.scripthash_layout.specs.declared.head.ShHeadValue.TheVariants.{Slab, Extent};
 ghost use Rattle.book.specs.Answers.{book_of};
 ghost use Rattle.book.specs.Steps.{Does};
@@ -7,10 +8,11 @@ ghost use Rattle.book_append.specs.Appends.{append_at, appends};
 ghost use Rattle.book_append.specs.Answers.{append_answer};
 ghost use Rattle.book_extend.specs.Steps.{PastAt, Past};
 
-use book_append::{BookAppend, accept_append, append_inline, grow_chain, move_slab};
+use book_append::{AppendedTo, accept_append, append_inline, grow_chain, move_slab};
 use book_keys::TailEnd;
-use scripthash_layout::{ShHeadValue, Unpacked};
-use scripthash_stream::ScanStream;
+use error::Refusal;
+use scripthash_layout::ShHeadValue;
+use scripthash_stream::Scanned;
 
 // A number behind a slab's list that doesn't stay there.
 fn slab_past(
@@ -25,7 +27,7 @@ fn slab_past(
     class: u8,
     used: u16,
     off: u64,
-) -> BookAppend
+) -> Result<AppendedTo, Refusal>
     requires { PastAt desk (book_of body.old heads.old mark.old free.old counts.old) key n (Slab class used off) }
     ensures { Does
         (append_at desk (book_of body.old heads.old mark.old free.old counts.old)
@@ -33,12 +35,9 @@ fn slab_past(
         (book_of body.old heads.old mark.old free.old counts.old)
         (book_of body.new heads.new mark.new free.new counts.new) (append_answer result) }
 {
-    let end = book_keys::slab_end(body, *mark, class, used, off);
-    let ScanStream::Scanned { taken: _, last } = end else {
-        return BookAppend::Refused(error::KEY_UNSOUND);
-    };
+    let Scanned { last, .. } = book_keys::slab_end(body, *mark, class, used, off)?;
     if n <= last {
-        return BookAppend::Refused(error::OFFERED_NOT_RISING);
+        return Err(Refusal::OfferedNotRising);
     }
     move_slab(
         body, heads, mark, free, counts, desk, key, n, class, used, off,
@@ -56,7 +55,7 @@ fn page_past(
     key: usize,
     n: u64,
     last: u64,
-) -> BookAppend
+) -> Result<AppendedTo, Refusal>
     requires { PastAt desk (book_of body.old heads.old mark.old free.old counts.old) key n (Extent last) }
     ensures { Does
         (append_at desk (book_of body.old heads.old mark.old free.old counts.old)
@@ -64,18 +63,14 @@ fn page_past(
         (book_of body.old heads.old mark.old free.old counts.old)
         (book_of body.new heads.new mark.new free.new counts.new) (append_answer result) }
 {
-    let end = book_keys::tail_end(body, *mark, last);
-    let TailEnd::Tail {
-        taken: _,
+    let TailEnd {
         fk,
         first,
         creates,
-    } = end
-    else {
-        return BookAppend::Refused(error::KEY_UNSOUND);
-    };
+        ..
+    } = book_keys::tail_end(body, *mark, last)?;
     if n <= fk {
-        return BookAppend::Refused(error::OFFERED_NOT_RISING);
+        return Err(Refusal::OfferedNotRising);
     }
     grow_chain(
         body, heads, mark, free, counts, desk, key, n, last, first, creates,
@@ -93,7 +88,7 @@ fn append_past_at(
     key: usize,
     n: u64,
     place: ShHeadValue,
-) -> BookAppend
+) -> Result<AppendedTo, Refusal>
     requires { PastAt desk (book_of body.old heads.old mark.old free.old counts.old) key n place }
     ensures { Does
         (append_at desk (book_of body.old heads.old mark.old free.old counts.old)
@@ -105,7 +100,7 @@ fn append_past_at(
         ShHeadValue::Empty => {
             accept_append(heads, key, ShHeadValue::Inline { entry: n, used: 1 }, 0)
         }
-        ShHeadValue::Inline { entry, used: _ } => {
+        ShHeadValue::Inline { entry, .. } => {
             append_inline(body, heads, mark, free, counts, desk, key, n, entry)
         }
         ShHeadValue::Slab { class, used, off } => {
@@ -130,7 +125,7 @@ pub fn append_past(
     desk: u64,
     key: u64,
     n: u64,
-) -> BookAppend
+) -> Result<AppendedTo, Refusal>
     requires { Past desk (book_of body.old heads.old mark.old free.old counts.old) key n }
     ensures { Does
         (appends desk (book_of body.old heads.old mark.old free.old counts.old) key n)
@@ -138,16 +133,12 @@ pub fn append_past(
         (book_of body.new heads.new mark.new free.new counts.new) (append_answer result) }
 {
     if book_space::shape_broken(body, heads.len(), *mark) {
-        return BookAppend::Refused(error::SHAPE_BAD);
+        return Err(Refusal::ShapeBad);
     }
-    let refusal = book_rules::judge_number(n);
-    if refusal != 0 {
-        return BookAppend::Refused(refusal);
-    }
+    book_rules::judge_number(n)?;
     let at = key as usize;
-    let head = scripthash_layout::unpack8(heads[at]);
-    let Unpacked::Head(place) = head else {
-        return BookAppend::Refused(error::KEY_UNSOUND);
+    let Ok(place) = scripthash_layout::unpack8(heads[at]) else {
+        return Err(Refusal::KeyUnsound);
     };
     append_past_at(body, heads, mark, free, counts, desk, at, n, place)
 }

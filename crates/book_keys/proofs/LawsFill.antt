@@ -94,6 +94,11 @@ pub length_put : (out : List ℕ) (at : ℕ) (part : List ℕ) → at ≤ length
     → length (put_back out at part) ≡ length out
 length_put out at part h e = simp (length-append, length-take, length-drop) (omega (arith, e, length_lent out at h))
 
+-- a page's numbers, where they were told, fit what is left of the list
+pub filled_room : (t : FillTold) (out part page : List ℕ) (at : ℕ) (a : Answer Scan) → at ≤ length out
+    → PageFilled (accepted t) (lent out at) part page a → at + t.count ≤ length out
+filled_room t out part page at a h f = omega (arith, f.within t refl, length_lent out at h)
+
 -- ---- what is left
 
 -- At most k pages are left to walk, from the one at an offset on, and their numbers, written from an index on, make the whole list.
@@ -168,3 +173,32 @@ module _ (s : Ground) (last : ℕ) (before : List ℕ) (whole : Chain) (out : Li
                     ∙ f.writes;
               };
             }
+
+    -- a turn whose page was tried
+    module _ (part : List ℕ) (h : at ≤ length out) where
+      turn : Turn
+      turn = fill_turn
+
+      tried : page_into (length (lent out at)) s off ≡ accepted turn.page
+      tried = ap (λ (n : ℕ). page_into n s off) (length_lent out at h) ∙ turn.read
+
+      -- it was read
+      pub turn_read : {number : ℕ} → PageFilled (refused number) (lent out at) part (page_at s off) (page_into (length (lent out at)) s off) → ⊥
+      turn_read r = refused≢accepted (r.reads turn.page tried).0
+
+      module _ (t : FillTold) (r : PageFilled (accepted t) (lent out at) part (page_at s off) (page_into (length (lent out at)) s off)) where
+        is : (length turn.page.numbers ≡ t.count) × (next_off (page_at s off) ≡ t.next)
+        is = read_told (page_at s off) turn.page t (accepted_inj (sym (r.reads turn.page tried).0))
+
+        wrote : put_back out at part ≡ overwrite out at turn.page.numbers
+        wrote =
+            let room = filled_room t out part (page_at s off) at _ h r in
+            page_written out at part turn.page (omega (arith, is.0, room)) (r.reads turn.page tried).1
+
+        -- and the list is whole behind the last one
+        pub turn_ends : off ≡ last → put_back out at part ≡ overwrite before 0 whole.numbers
+        turn_ends e = wrote ∙ turn.ends e
+
+        -- and the rest makes it so behind another
+        pub turn_goes : (off ≡ last → ⊥) → Filling k s last before whole (put_back out at part) (at + t.count) t.next
+        turn_goes n = filling_as k s last before whole (sym wrote) (ap (λ (i : ℕ). at + i) is.0) is.1 (turn.goes n)

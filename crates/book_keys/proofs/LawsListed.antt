@@ -1,11 +1,12 @@
 -- Reading a key's list into a lent list: what is told, and what the list holds afterwards. Assumes nothing.
 use Prim.Native.Nat.{ℕ, ◌+◌, ◌^◌, ◌≤◌, ◌<◌}
 use mathlib.Core.List.{List}
-use mathlib.Core.Path.{◌≡◌, sym, ap, ◌∙◌}
+use mathlib.Core.Path.{◌≡◌, refl, sym, ap, ◌∙◌}
 use native.Mathlib.Omega.{arith}
 use borrow.Author.Tests.{lt-ltb, le-ltb}
 use lib.Dec.{ltb}
 use lib.ListN.{length, drop}
+use Rattle.std.specs.Prelude.{Option, Some, None}
 use Rattle.error.specs.Refusal.{Answer, accepted, refused, list_too_short, key_unsound}
 use Rattle.error.proofs.LawsAnswer.{then_yes, then_no, refuse_yes, refuse_no, answered_yes, answered_no}
 use Rattle.buffer.specs.Bytes.{overwrite}
@@ -64,17 +65,23 @@ module _ (out after : List ℕ) (a : Answer Content) where
 
 -- ---- a try at a short list
 
--- one that told that it didn't read left the list
-pub short_left : (told : ℕ) (before after : List ℕ) (a : Answer Scan) → ShortList told before after a → told ≤ 0 → after ≡ before
+-- one that told nothing left the list
+pub short_left : (told : Option ℕ) (before after : List ℕ) (a : Answer Scan) → ShortList told before after a → told ≡ None → after ≡ before
 short_left told before after a (unread e f) g = f
-short_left told before after a (short c some is size h f) g = absurd (omega arith)
+short_left told before after a (short c t some is h f) g = cc
 
--- one of a slab whose stream was tried
+-- one of a slab whose stream was tried in vain
+pub slab_untried : (told : ℕ) (before after : List ℕ) (a b : Answer Scan) → told ≡ 0 → ShortRead told (2 ^ 62) before after a
+    → ShortList None before after b
+slab_untried told before after a b z (unread-stream t f) = unread refl f
+slab_untried told before after a b z (short-stream c some is size fits low f) = absurd (omega arith)
+
+-- one of a slab whose stream was tried and read
 pub short_slab : (slab : List ℕ) (used told : ℕ) (before after : List ℕ) → used ≤ max_slab_count → slab_used slab ≡ used → 2 ≤ length slab
-    → ShortRead told (2 ^ 62) before after (scan used (drop 2 slab)) → ShortList told before after (slab_read slab used)
-short_slab slab used told before after few e l (unread-stream t f) = unread t f
-short_slab slab used told before after few e l (short-stream c some is size fits low f) =
-    short c some (slab_short slab used c few e l is (omega arith) low) size fits f
+    → 0 < told → ShortRead told (2 ^ 62) before after (scan used (drop 2 slab)) → ShortList (Some told) before after (slab_read slab used)
+short_slab slab used told before after few e l took (unread-stream t f) = absurd (omega arith)
+short_slab slab used told before after few e l took (short-stream c some is size fits low f) =
+    short c (ap Some (sym size)) (omega arith) (slab_short slab used c few e l is (omega arith) low) fits f
 
 -- ---- a slab's list
 
@@ -116,11 +123,11 @@ pub record Tried (slab : List ℕ) (used taken : ℕ) (out after : List ℕ) : T
   pub written : after ≡ overwrite out 0 scanned.numbers
 
 -- a try that told some bytes read a slab's list
-pub slab_tried : (slab : List ℕ) (used told : ℕ) (out after : List ℕ) → ShortList told out after (slab_read slab used) → 0 < told
-    → Tried slab used told out after
-slab_tried slab used told out after (unread e f) g = absurd (omega arith)
-slab_tried slab used told out after (short c some is size h f) g =
-    record { scanned = c; is = is; size = size; fits = h; written = f }
+pub slab_tried : (slab : List ℕ) (used taken : ℕ) (out after : List ℕ) → ShortList (Some taken) out after (slab_read slab used)
+    → Tried slab used taken out after
+slab_tried slab used taken out after (unread e f) = cc
+slab_tried slab used taken out after (short c t some is h f) =
+    record { scanned = c; is = is; size = cc; fits = h; written = f }
 
 -- what is counted over the bytes that a slab's stream takes
 pub slab_told : (slab bs : List ℕ) (used taken r : ℕ) → bs ≡ drop 2 slab

@@ -45,6 +45,10 @@ module _ {A : Type 0} where
   was_unsound (accepted y) e = absurd (refused≢accepted (sym e))
   was_unsound (refused m) e = (m, refl)
 
+  -- a refusal that tells that a key isn't sound
+  pub unsound_told : (a : Answer A) {number : ℕ} → refused number ≡ soundly a → (number ≡ key_unsound) × (m : ℕ) × (a ≡ refused m)
+  unsound_told a e = let w = was_unsound a (sym e) in (unsound_is a (sym e), w.0, w.1)
+
   -- a test that holds, and one that doesn't
   pub sure_yes : (test : Bool) (after : Answer A) → test ≡ true → sure test after ≡ after
   unfolding sure
@@ -67,6 +71,14 @@ module _ {A B : Type 0} where
   -- an acceptance, told in other words
   pub let_through : (f : A → B) (a : Answer A) {x : A} → a ≡ accepted x → accepted (f x) ≡ answered f (soundly a)
   let_through f a e = sym (answered_yes f (soundly a) (soundly_yes a e))
+
+module _ {A B C D : Type 0} where
+  -- a refusal of a part, passed on: where an unsound part makes the whole unsound, both are refused alike
+  pub passed_on : (f : A → B) (a : Answer A) (g : C → D) (b : Answer C) {number : ℕ} → refused number ≡ answered f (soundly a)
+      → ((m : ℕ) → a ≡ refused m → (k : ℕ) × (b ≡ refused k)) → refused number ≡ answered g (soundly b)
+  passed_on f a g b e h =
+      let t = unsound_told a (sym (was_refused f (soundly a) (sym e))) in
+      ap refused t.0 ∙ turned_back g b (h t.1 t.2).1
 
 -- ---- the numbers of a block
 

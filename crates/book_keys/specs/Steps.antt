@@ -1,6 +1,6 @@
 -- A key's blocks by their bytes alone: what is asked of a slab or page once it is known to lie below the mark, and what the steps of the
 -- code tell each other.
-use Rattle.std.specs.Prelude.{ℕ, ◌+◌, ◌^◌, ◌≤◌, Bool, true, false, ◌&&◌, List, ◌≡◌, leb, ltb, eqb, length, get_or, ◌<◌}
+use Rattle.std.specs.Prelude.{ℕ, ◌+◌, ◌^◌, ◌≤◌, Option, Some, None, Bool, true, false, ◌&&◌, List, ◌≡◌, leb, ltb, eqb, length, get_or, ◌<◌}
 use Rattle.error.specs.Refusal.{Answer, accepted, refused, refuse_if, and_then, answered, list_too_short}
 use Rattle.buffer.specs.Bytes.{overwrite}
 use Rattle.scripthash_layout.specs.Sizes.{max_slab_count, page_class}
@@ -153,11 +153,11 @@ pub record PageFilled (told : Answer FillTold) (before after page : List ℕ) (a
 abbrev pub Written : List ℕ → List ℕ → List ℕ → Type 0
 Written before after ns = length ns ≤ length before → after ≡ overwrite before 0 ns
 
--- A try at reading a block's numbers, whose scan as a sound one would be `a`, into the start of a list: it tells 0 and leaves the list, or
--- the block is sound and its numbers fit, it tells the bytes that they take, and the list holds them.
-pub data ShortList (told : ℕ) (before after : List ℕ) (a : Answer Scan) : Type 0 where
-  unread : told ≡ 0 → after ≡ before → ShortList told before after a
-  short : (c : Scan) → 0 < told → a ≡ accepted c → c.taken ≡ told → length c.numbers ≤ length before
+-- A try at reading a block's numbers, whose scan as a sound one would be `a`, into the start of a list: it tells nothing and leaves the
+-- list, or the block is sound and its numbers fit, it tells the bytes that they take, at least one, and the list holds them.
+pub data ShortList (told : Option ℕ) (before after : List ℕ) (a : Answer Scan) : Type 0 where
+  unread : told ≡ None → after ≡ before → ShortList told before after a
+  short : (c : Scan) → told ≡ Some c.taken → 0 < c.taken → a ≡ accepted c → length c.numbers ≤ length before
       → after ≡ overwrite before 0 c.numbers → ShortList told before after a
 
 -- What a key holds, to be read into a list with room for some numbers: 34 where its own don't fit.

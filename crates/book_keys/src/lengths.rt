@@ -9,67 +9,46 @@ ghost use Rattle.book_keys.specs.Answers.{length_answer};
 use crate::chain::{ChainEnd, chain_end};
 use crate::slab::slab_end;
 use error::Refusal;
-use scripthash_layout::{ShHeadValue, Unpacked};
-use scripthash_stream::ScanStream;
-
-// How many numbers a key has; or 31.
-#[derive(Clone, Copy)]
-pub enum KeyLength {
-    Length(u64),
-    Refused(Refusal),
-}
+use scripthash_layout::ShHeadValue;
 
 // How many numbers a key in a slab has: as many as its head says, where its slab is sound.
-fn slab_length(body: &[u8], mark: u64, class: u8, used: u16, off: u64) -> KeyLength
+fn slab_length(body: &[u8], mark: u64, class: u8, used: u16, off: u64) -> Result<u64, Refusal>
     requires { mark ≤ length body.now }
     ensures { length_answer result ≡ answered length_of (soundly (content_at (body_ground body.now mark) (Slab class used off))) }
 {
-    let end = slab_end(body, mark, class, used, off);
-    let ScanStream::Scanned { taken: _, last: _ } = end else {
-        return KeyLength::Refused(error::KEY_UNSOUND);
-    };
-    KeyLength::Length(used as u64)
+    slab_end(body, mark, class, used, off)?;
+    Ok(u64::from(used))
 }
 
 // How many numbers a key in pages has: those of all its pages, where its chain is sound.
-fn chain_length(body: &[u8], mark: u64, last: u64) -> KeyLength
+fn chain_length(body: &[u8], mark: u64, last: u64) -> Result<u64, Refusal>
     requires { mark ≤ length body.now }
     ensures { length_answer result ≡ answered length_of (soundly (content_at (body_ground body.now mark) (Extent last))) }
 {
-    let end = chain_end(body, mark, last, false);
-    let ChainEnd::Chain {
-        first: _,
-        length,
-        pages: _,
-        padded: _,
-    } = end
-    else {
-        return KeyLength::Refused(error::KEY_UNSOUND);
-    };
-    KeyLength::Length(length)
+    let ChainEnd { length, .. } = chain_end(body, mark, last, false)?;
+    Ok(length)
 }
 
 // How many numbers a key has that stands at a place.
-fn place_length(body: &[u8], mark: u64, place: ShHeadValue) -> KeyLength
+fn place_length(body: &[u8], mark: u64, place: ShHeadValue) -> Result<u64, Refusal>
     requires { mark ≤ length body.now }
     ensures { length_answer result ≡ answered length_of (soundly (content_at (body_ground body.now mark) place)) }
 {
     match place {
-        ShHeadValue::Empty => KeyLength::Length(0),
-        ShHeadValue::Inline { entry: _, used: _ } => KeyLength::Length(1),
+        ShHeadValue::Empty => Ok(0),
+        ShHeadValue::Inline { .. } => Ok(1),
         ShHeadValue::Slab { class, used, off } => slab_length(body, mark, class, used, off),
         ShHeadValue::Extent { last_page } => chain_length(body, mark, last_page),
     }
 }
 
 // How many numbers a head word's key has: 31 where it isn't sound.
-pub fn key_length(body: &[u8], mark: u64, word: u64) -> KeyLength
+pub fn key_length(body: &[u8], mark: u64, word: u64) -> Result<u64, Refusal>
     requires { mark ≤ length body.now }
     ensures { length_answer result ≡ answered length_of (content (body_ground body.now mark) word) }
 {
-    let got = scripthash_layout::unpack8(word);
-    let Unpacked::Head(place) = got else {
-        return KeyLength::Refused(error::KEY_UNSOUND);
+    let Ok(place) = scripthash_layout::unpack8(word) else {
+        return Err(Refusal::KeyUnsound);
     };
     place_length(body, mark, place)
 }

@@ -8,5 +8,5 @@ mod slab;
 
 pub use chain::{ChainEnd, TailEnd, chain_end, next_page, tail_end};
 pub use key::{KeyCounts, read_key};
-pub use lengths::{KeyLength, key_length};
+pub use lengths::key_length;
 pub use slab::{slab_end, slab_into};

@@ -1,10 +1,10 @@
--- What the answers of a load mean: a refusal's number (FORMAT, Refusals) or values for each of their cases.
-use Rattle.error.specs.Refusal.{Answer, accepted, refused}
+-- What the answers of a load mean: a refusal's number (FORMAT, Refusals) or what was told.
+use Rattle.std.specs.Prelude.{ℕ, Result}
+use Rattle.error.specs.Refusal.{Answer}
+use Rattle.error.specs.Answers.{result_answer}
+use Rattle.error.specs.declared.Refusal.{Refusal}
 use Rattle.book_rules.specs.Outcomes.{loaded_in, Loaded}
-use Rattle.book_load.specs.declared.answers.BookLoad.{BookLoad}
-use Rattle.book_load.specs.declared.answers.BookLoad.TheVariants.{Loaded as DidLoad, Refused as NotLoaded}
 
--- The answer of `load`.
-abbrev pub load_answer : BookLoad → Answer Loaded
-load_answer (DidLoad pages) = accepted (loaded_in pages)
-load_answer (NotLoaded number) = refused number
+-- The answer of `load`: how many pages it took.
+abbrev pub load_answer : Result ℕ Refusal → Answer Loaded
+load_answer = result_answer (λ pages. loaded_in pages)

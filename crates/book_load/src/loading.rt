@@ -1,4 +1,5 @@
 // Loading a list onto an empty key, for a desk.
+// Sizes and numbers of 64 bits are cast with `as`, since Rust has no From between them: each cast is proved to fit.
 ghost use Rattle.std.specs.Prelude.{List, ◌≡◌, ℕ, ◌<◌, length};
 ghost use Rattle.std.proofs.Math.Option.{none, some};
 ghost use Rattle.error.specs.Refusal.{accepted};
@@ -13,28 +14,32 @@ ghost use Rattle.book_load.specs.Answers.{load_answer};
 ghost use Rattle.book.specs.Steps.{Does};
 ghost use Rattle.book_load.specs.Steps.{ToLoadJudged, ToLoadList, ToLoadSlab, ToLoadRun, ToLoadParts};
 
-use crate::answers::BookLoad;
-use book::{PlaceList, place_in_slab, put_head};
+use book::{place_in_slab, put_head};
 use book_desks::DESKS;
 use book_rules::SlabFit;
-use book_space::TakeBlock;
-use scripthash_cutting::{ChunkRange, ChunkRanges};
+use error::Refusal;
+use scripthash_cutting::ChunkRange;
 use scripthash_layout::{SH_PAGE_SIZE, ShHeadValue};
-use scripthash_slabs::{SH_MEGAKEY_MIN_FKS, SlabClass};
-use scripthash_stream::{MAX_OFFERED, StreamBytes};
+use scripthash_slabs::SH_MEGAKEY_MIN_FKS;
+use scripthash_stream::MAX_OFFERED;
 
 // The most pages of a load's run: one for each 407 numbers, and two.
 const MOST_PAGES: usize = 163;
 
 // An accepted load gives the key its place, whatever the space and the counts are then.
-fn accept_load(heads: &mut [u64], key: usize, place: ShHeadValue, pages: u64) -> BookLoad
+fn accept_load(
+    heads: &mut [u64],
+    key: usize,
+    place: ShHeadValue,
+    pages: u64,
+) -> Result<u64, Refusal>
     requires { key < length heads.old }
     ensures { (b : Book) (s : Space) (counts : List ℕ) → b.heads ≡ heads.old
         → Does (accepted (loading key place pages s counts b)) b
         (record { heads = heads.new; space = s; counts = counts }) (load_answer result) }
 {
     put_head(heads, key, place);
-    BookLoad::Loaded(pages)
+    Ok(pages)
 }
 
 // Loads a list into a slab of a class that a desk takes: no count changes.
@@ -48,7 +53,7 @@ fn load_slab(
     key: usize,
     fks: &[u64],
     class: u8,
-) -> BookLoad
+) -> Result<u64, Refusal>
     requires { ToLoadSlab desk (book_of body.old heads.old mark.old free.old counts.now) key fks.now class }
     ensures { Does
         (load_into desk (book_of body.old heads.old mark.old free.old counts.now) key
@@ -56,11 +61,8 @@ fn load_slab(
         (book_of body.old heads.old mark.old free.old counts.now)
         (book_of body.new heads.new mark.new free.new counts.now) (load_answer result) }
 {
-    let answer = place_in_slab(body, mark, free, counts, desk, fks, class);
-    match answer {
-        PlaceList::At(place) => accept_load(heads, key, place, 0),
-        PlaceList::Refused(number) => BookLoad::Refused(number),
-    }
+    let place = place_in_slab(body, mark, free, counts, desk, fks, class)?;
+    accept_load(heads, key, place, 0)
 }
 
 // Loads a list into a run of pages that a desk takes, by the ranges of its parts, a part in each.
@@ -75,7 +77,7 @@ fn load_parts(
     fks: &[u64],
     ranges: &[ChunkRange],
     count: usize,
-) -> BookLoad
+) -> Result<u64, Refusal>
     requires { ToLoadParts desk (book_of body.old heads.old mark.old free.old counts.old) key fks.now ranges.now count }
     ensures { Does
         (load_into desk (book_of body.old heads.old mark.old free.old counts.old) key
@@ -83,10 +85,7 @@ fn load_parts(
         (book_of body.old heads.old mark.old free.old counts.old)
         (book_of body.new heads.new mark.new free.new counts.new) (load_answer result) }
 {
-    let answer = book_space::run_for(body, mark, free, counts, desk, count as u64);
-    let TakeBlock::At(off) = answer else {
-        return BookLoad::Refused(answer.refusal());
-    };
+    let off = book_space::run_for(body, mark, free, counts, desk, count as u64)?;
     book_blocks::put_run(body, off as usize, fks, ranges, count);
     let last_page = off + ((count - 1) * SH_PAGE_SIZE) as u64;
     accept_load(heads, key, ShHeadValue::Extent { last_page }, count as u64)
@@ -102,7 +101,7 @@ fn load_run(
     desk: u64,
     key: usize,
     fks: &[u64],
-) -> BookLoad
+) -> Result<u64, Refusal>
     requires { ToLoadRun desk (book_of body.old heads.old mark.old free.old counts.old) key fks.now }
     ensures { Does
         (load_into desk (book_of body.old heads.old mark.old free.old counts.old) key
@@ -111,10 +110,7 @@ fn load_run(
         (book_of body.new heads.new mark.new free.new counts.new) (load_answer result) }
 {
     let mut ranges = [[0; 2]; MOST_PAGES];
-    let cut = scripthash_cutting::sh_page_chunk_ranges(fks, &mut ranges);
-    let ChunkRanges::Parts(count) = cut else {
-        return BookLoad::Refused(cut.refusal());
-    };
+    let count = scripthash_cutting::sh_page_chunk_ranges(fks, &mut ranges)?;
     load_parts(
         body, heads, mark, free, counts, desk, key, fks, &ranges, count,
     )
@@ -132,7 +128,7 @@ fn load_list(
     key: usize,
     fks: &[u64],
     bytes: usize,
-) -> BookLoad
+) -> Result<u64, Refusal>
     requires { ToLoadList desk (book_of body.old heads.old mark.old free.old counts.old) key fks.now bytes }
     ensures { Does
         (load_into desk (book_of body.old heads.old mark.old free.old counts.old) key
@@ -140,12 +136,9 @@ fn load_list(
         (book_of body.old heads.old mark.old free.old counts.old)
         (book_of body.new heads.new mark.new free.new counts.new) (load_answer result) }
 {
-    let class = book_rules::loads_to(fit, fks.len(), bytes);
-    match class {
-        SlabClass::Class(class) => load_slab(
-            body, heads, mark, free, counts, desk, key, fks, class,
-        ),
-        SlabClass::Nothing => load_run(body, heads, mark, free, counts, desk, key, fks),
+    match book_rules::loads_to(fit, fks.len(), bytes) {
+        Some(class) => load_slab(body, heads, mark, free, counts, desk, key, fks, class),
+        None => load_run(body, heads, mark, free, counts, desk, key, fks),
     }
 }
 
@@ -163,7 +156,7 @@ fn load_judged(
     key: usize,
     fks: &[u64],
     bytes: usize,
-) -> BookLoad
+) -> Result<u64, Refusal>
     requires { ToLoadJudged desk (book_of body.old heads.old mark.old free.old counts.old) key fks.now bytes }
     ensures { Does
         (load_at fit desk (book_of body.old heads.old mark.old free.old counts.old) key
@@ -171,8 +164,8 @@ fn load_judged(
         (book_of body.old heads.old mark.old free.old counts.old)
         (book_of body.new heads.new mark.new free.new counts.new) (load_answer result) }
 {
-    if fks.len() == 0 {
-        return BookLoad::Loaded(0);
+    if fks.is_empty() {
+        return Ok(0);
     }
     if fks.len() == 1 {
         let entry = fks[0];
@@ -195,7 +188,7 @@ pub fn load(
     fit: SlabFit,
     key: u64,
     fks: &[u64],
-) -> BookLoad
+) -> Result<u64, Refusal>
     ensures answer { load_answer result
         ≡ answer_of
         (loads fit desk (book_of body.old heads.old mark.old free.old counts.old) key
@@ -206,24 +199,21 @@ pub fn load(
         fks.now) }
 {
     if book_space::shape_broken(body, heads.len(), *mark) {
-        return BookLoad::Refused(error::SHAPE_BAD);
+        return Err(Refusal::ShapeBad);
     }
     if DESKS as u64 <= desk {
-        return BookLoad::Refused(error::DESKS_BAD);
+        return Err(Refusal::DesksBad);
     }
     if heads.len() as u64 <= key {
-        return BookLoad::Refused(error::KEY_BEYOND);
+        return Err(Refusal::KeyBeyond);
     }
     let at = key as usize;
     if heads[at] != 0 {
-        return BookLoad::Refused(error::KEY_IN_USE);
+        return Err(Refusal::KeyInUse);
     }
     if MAX_OFFERED < fks.len() {
-        return BookLoad::Refused(error::TOO_MANY_OFFERED);
+        return Err(Refusal::TooManyOffered);
     }
-    let judged = book_rules::judge_list(fks);
-    let StreamBytes::Bytes(bytes) = judged else {
-        return BookLoad::Refused(judged.refusal());
-    };
+    let bytes = book_rules::judge_list(fks)?;
     load_judged(body, heads, mark, free, counts, desk, fit, at, fks, bytes)
 }

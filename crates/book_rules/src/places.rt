@@ -1,11 +1,9 @@
 // Rules for where a list goes, over its count and the bytes of its stream.
-ghost use Rattle.std.specs.Prelude.{◌≡◌, ◌≤◌, ◌<◌, ◌^◌, max};
+ghost use Rattle.std.specs.Prelude.{◌≡◌, ◌≤◌, ◌<◌, ◌^◌};
 ghost use Rattle.scripthash_layout.specs.Sizes.{max_slab_class, max_slab_count};
 ghost use Rattle.scripthash_slabs.specs.Answers.{chosen};
 ghost use Rattle.book_rules.specs.Places.{stays, moves_to, loads_to};
 ghost use Rattle.book_rules.specs.Steps.{SpareBytes};
-
-use scripthash_slabs::SlabClass;
 
 // The most numbers that a slab is given.
 const MOST_IN_SLAB: usize = 256;
@@ -15,7 +13,7 @@ const COUNT_BYTES: usize = 2;
 const SLOT_BYTES: usize = 4;
 
 // How a load's slab fits its list: with a spare slot for the next record, or tight.
-#[derive(Clone, Copy)]
+#[derive(Clone, Copy, Debug, PartialEq, Eq)]
 pub enum SlabFit {
     Spare,
     Tight,
@@ -42,44 +40,32 @@ fn spare_bytes(count: usize) -> usize
     requires { (1 ≤ count) × (count ≤ max_slab_count) }
     ensures { SpareBytes count result }
 {
-    if count < MOST_IN_SLAB {
-        return SLOT_BYTES * (count + 1);
-    }
-    SLOT_BYTES * count
-}
-
-// The larger of two numbers.
-fn larger(one: usize, other: usize) -> usize
-    ensures { result ≡ max one other }
-{
-    if one < other {
-        return other;
-    }
-    one
+    SLOT_BYTES * (count + 1).min(MOST_IN_SLAB)
 }
 
 // The class of the slab that a list moves to: the larger of the slack class and the class by bytes; none where it moves to a page. Slots
 // are looked up as bytes, so that one class is looked up for both.
-pub fn moves_to(count: usize, bytes: usize) -> SlabClass
+#[tactic(auto, using(crate::proofs::LawsRules::moves_none, crate::proofs::LawsRules::moves_by_bytes))]
+pub fn moves_to(count: usize, bytes: usize) -> Option<u8>
     requires { (1 ≤ count) × (bytes < 2 ^ 40) }
     ensures { chosen result ≡ moves_to count bytes }
 {
     if MOST_IN_SLAB < count {
-        return SlabClass::Nothing;
+        return None;
     }
-    let wanted = larger(spare_bytes(count), COUNT_BYTES + bytes);
+    let wanted = spare_bytes(count).max(COUNT_BYTES + bytes);
     scripthash_slabs::slab_class_for_packed_len(wanted)
 }
 
 // The class of the slab that a load gives a list, none where it goes to a run of pages: with a spare slot the class of a move, tight the
 // class by bytes.
 #[tactic(auto, using(crate::proofs::LawsRules::loads_none, crate::proofs::LawsRules::loads_by_bytes), unfolding(crate::specs::Places::loads_to))]
-pub fn loads_to(fit: SlabFit, count: usize, bytes: usize) -> SlabClass
+pub fn loads_to(fit: SlabFit, count: usize, bytes: usize) -> Option<u8>
     requires { (1 ≤ count) × (bytes < 2 ^ 40) }
     ensures { chosen result ≡ loads_to fit count bytes }
 {
     if MOST_IN_SLAB < count {
-        return SlabClass::Nothing;
+        return None;
     }
     match fit {
         SlabFit::Spare => moves_to(count, bytes),

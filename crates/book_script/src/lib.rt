@@ -3,24 +3,17 @@
 
 mod asked;
 mod helped;
-mod judged;
 mod reading;
 mod refusals;
 mod reports;
 mod said;
 mod shown;
 
-pub use asked::{Asked, Command, ask, offered};
+pub use asked::{Command, ask, echo};
 pub use helped::help;
-pub use judged::{
-    counts_exceed, free_shares, free_strays, freed_differs, good_start, held_differs, held_high,
-    key_shares, key_unsound, lacks_open, reserve_high,
-};
-pub use reading::{Reading, begin, line_of, turn};
+pub use reading::Lines;
 pub use refusals::{refused, stopped};
-pub use reports::{
-    BODY_BYTES, DESKS, KEYS, LINE_BYTES, NUMBERS, WORK_BYTES, made_already, no_body, no_book,
-};
+pub use reports::{BODY_BYTES, DESKS, KEYS, LINE_BYTES, NUMBERS, Unread, WORK_BYTES, report};
 pub use said::{
     appended, body_made, ceiling_told, desk_told, dropped, ended, extended, keys_made, listed,
     loaded, reserve_told,

@@ -1,4 +1,5 @@
 // The limits of the shell, and reports of lines that can't be read: what goes past a limit is told so, and nothing is done for it.
+use std::io;
 
 // The bytes of a line, with its end.
 pub const LINE_BYTES: usize = 16384;
@@ -13,49 +14,44 @@ pub const BODY_BYTES: usize = 262144;
 // The work list of a check: a byte for each 128 bytes of the largest body.
 pub const WORK_BYTES: usize = 2048;
 
-// Begins the report of a line.
-fn report(number: u64) {
-    text::named(b"line ", number);
-    text::words(b": ");
+// Why nothing is done for a line.
+#[derive(Clone, Copy)]
+pub enum Unread<'a> {
+    // The line should have this form.
+    Form(&'static str),
+    // Something goes past a limit, which is the most that there may be.
+    Past { what: &'static str, most: usize },
+    // A word stands where a number should.
+    NotANumber(&'a [u8]),
+    // A number has more than 64 bits.
+    TooLarge(&'a [u8]),
+    // The line asks something of a book before there is one.
+    NoBook,
+    // The line asks for keys, or tells of desks, before there is a body.
+    NoBody,
+    // The line tells of desks when the book is made.
+    MadeAlready,
 }
 
-// Begins the report of what was expected of a line.
-pub fn expected(number: u64) {
-    report(number);
-    text::words(b"expected ");
+// Reports the word of a line that isn't what was expected.
+fn report_word<P: Print>(rt: &P, what: &str, word: &[u8]) -> io::Result<()> {
+    print!(rt; "expected {what}, found ")?;
+    rt.write_all(word)?;
+    println!(rt)
 }
 
-// Reports what goes past a limit.
-pub fn past(number: u64, what: &[u8], most: usize) {
-    report(number);
-    text::words(what);
-    text::named(b", the most here is ", most as u64);
-    text::end();
-}
-
-// Reports a line that asks something of a book before there is one.
-pub fn no_book(number: u64) {
-    report(number);
-    text::words(b"no book yet: type body BYTES, then keys COUNT\n");
-}
-
-// Reports a line that asks for keys before there is a body.
-pub fn no_body(number: u64) {
-    report(number);
-    text::words(b"no body yet: type body BYTES first\n");
-}
-
-// Reports a line that tells of desks when the book is made.
-pub fn made_already(number: u64) {
-    report(number);
-    text::words(b"the book is made: desks are told between body BYTES and keys COUNT\n");
-}
-
-// Reports a word that isn't what was expected.
-pub fn unread(number: u64, what: &[u8], word: &[u8]) {
-    expected(number);
-    text::words(what);
-    text::words(b", found ");
-    text::words(word);
-    text::end();
+// Reports the line of a number, which isn't understood.
+pub fn report<P: Print>(rt: &P, number: u64, why: Unread<'_>) -> io::Result<()> {
+    print!(rt; "line {number}: ")?;
+    match why {
+        Unread::Form(form) => println!(rt; "expected {form}"),
+        Unread::Past { what, most } => println!(rt; "{what}, the most here is {most}"),
+        Unread::NotANumber(word) => report_word(rt, "a number", word),
+        Unread::TooLarge(word) => report_word(rt, "a number below 2^64", word),
+        Unread::NoBook => println!(rt; "no book yet: type body BYTES, then keys COUNT"),
+        Unread::NoBody => println!(rt; "no body yet: type body BYTES first"),
+        Unread::MadeAlready => {
+            println!(rt; "the book is made: desks are told between body BYTES and keys COUNT")
+        }
+    }
 }

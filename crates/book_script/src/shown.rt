@@ -1,82 +1,54 @@
 // What a book holds: the place of each key, the mark and the freed blocks.
-use crate::said;
-use scripthash_layout::Unpacked;
+use crate::said::Place;
+use std::io;
 
-// Writes the place that a head word stores.
-fn show_word(word: u64) {
-    let head = scripthash_layout::unpack8(word);
-    match head {
-        Unpacked::Head(place) => said::place(place),
-        Unpacked::Refused(number) => text::named(b"no place, refused ", number as u64),
+// Writes the place of a key, which a head word stores.
+fn show_key<P: Print>(rt: &P, key: usize, word: u64) -> io::Result<()> {
+    match scripthash_layout::unpack8(word) {
+        Ok(place) => println!(rt; "key {key}: {}", Place(place)),
+        Err(refusal) => println!(rt; "key {key}: no place, refused {}", u32::from(refusal)),
     }
-}
-
-// Writes the place of a key.
-fn show_key(key: u64, word: u64) {
-    text::named(b"key ", key);
-    text::words(b": ");
-    show_word(word);
-    text::end();
 }
 
 // Writes the place of each key, a line for each.
-pub fn places(heads: &[u64]) {
-    let mut key: usize = 0;
-    while key < heads.len() {
-        show_key(key as u64, heads[key]);
-        key += 1;
+pub fn places<P: Print>(rt: &P, heads: &[u64]) -> io::Result<()> {
+    for (key, word) in heads.iter().enumerate() {
+        show_key(rt, key, *word)?;
     }
+    Ok(())
 }
 
 // The offset of the freed block behind one, and 0 where there is none.
 fn freed_behind(body: &[u8], off: u64) -> u64 {
     let size = body.len() as u64;
-    if size < 8 {
-        return 0;
-    }
-    if size - 8 < off {
+    if size < 8 || size - 8 < off {
         return 0;
     }
     buffer::get_u64(body, off as usize)
 }
 
-// Writes the offsets of freed blocks, from a free head on.
-fn show_blocks(body: &[u8], head: u64) {
+// Writes the offsets of freed blocks, from a free head on; no more than a body has bytes, since a list that loops has no end.
+fn show_blocks<P: Print>(rt: &P, body: &[u8], head: u64) -> io::Result<()> {
     let mut off = head;
-    let mut left = body.len();
-    while 0 < left {
+    for _ in 0..body.len() {
         if off == 0 {
-            return;
+            break;
         }
-        text::named(b" ", off);
+        print!(rt; " {off}")?;
         off = freed_behind(body, off);
-        left -= 1;
     }
+    Ok(())
 }
 
-// Writes the freed blocks of a class, where it has some.
-fn show_class(body: &[u8], class: usize, head: u64) {
-    if head == 0 {
-        return;
+// Writes the mark, and a line for each class that has freed blocks.
+pub fn space<P: Print>(rt: &P, body: &[u8], mark: u64, free: &[u64; 9]) -> io::Result<()> {
+    println!(rt; "mark {mark}")?;
+    for (class, head) in free.iter().enumerate() {
+        if *head != 0 {
+            print!(rt; "freed, class {class}:")?;
+            show_blocks(rt, body, *head)?;
+            println!(rt)?;
+        }
     }
-    text::named(b"freed, class ", class as u64);
-    text::words(b":");
-    show_blocks(body, head);
-    text::end();
-}
-
-// Writes a line for each class that has freed blocks.
-fn show_free(body: &[u8], free: [u64; 9]) {
-    let mut class: usize = 0;
-    while class < 9 {
-        show_class(body, class, free[class]);
-        class += 1;
-    }
-}
-
-// Writes the mark, and the freed blocks of each class.
-pub fn space(body: &[u8], mark: u64, free: [u64; 9]) {
-    text::named(b"mark ", mark);
-    text::end();
-    show_free(body, free);
+    Ok(())
 }

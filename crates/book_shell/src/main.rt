@@ -6,457 +6,194 @@
 // line of all tells how many lines were refused, also such of which a number was, and how many not understood.
 #![tactic(auto)]
 
-mod calls;
-mod memory;
+mod accounts;
+mod judged;
+mod turned;
 
+use accounts::Book;
 use book_rules::SlabFit;
-use book_script::{Asked, Command, Reading};
-use std::io::Read;
+use book_script::{Command, Lines, NUMBERS, Unread};
+use judged::Judged;
+use std::io;
+use std::io::BufReader;
+use turned::Turned;
 
-// The book of the script: how many bytes and keys were asked for, and below which key lines gave keys to desks. A book has no keys until
-// they are asked for. And how many lines were refused and not understood, from the first line on. Body, heads, state and what was told of
-// desks are lent beside it.
+// Loads a list onto a key.
+fn load<P: Print>(
+    rt: &P,
+    book: &mut Book,
+    fit: SlabFit,
+    key: u64,
+    list: &[u64],
+) -> Result<(), Turned<'static>> {
+    let pages = book.load(fit, key, list)?;
+    book_script::loaded(rt, list.len() as u64, pages)?;
+    Ok(())
+}
+
+// Appends numbers to a key, up to the first that is refused.
+fn extend<P: Print>(
+    rt: &P,
+    book: &mut Book,
+    key: u64,
+    list: &[u64],
+) -> Result<(), Turned<'static>> {
+    let by = book.extend(key, list)?;
+    book_script::extended(rt, by.count, by.place, by.moves, by.rewritten)?;
+    let Some(refusal) = by.refusal else {
+        return Ok(());
+    };
+    let n = list.get(by.count as usize).copied().unwrap_or(0);
+    Err(Turned::Stopped { n, refusal })
+}
+
+// Reads the list of a key, where there is room for all of it.
+fn read<R: Print + AllocGlobal>(
+    rt: &R,
+    book: &Book,
+    key: u64,
+    room: usize,
+) -> Result<(), Turned<'static>> {
+    let mut list = vec![in rt.alloc(); 0; room]?;
+    let read = book.read(key, &mut list)?;
+    let listed = list.as_slice();
+    book_script::listed(
+        rt,
+        listed.get(..read.length as usize).unwrap_or(listed),
+        read.pages,
+        read.padded,
+    )?;
+    Ok(())
+}
+
+// Does what is asked for on the book, where there is one.
+fn on_book<R: Print + AllocGlobal>(
+    rt: &R,
+    book: &mut Book,
+    command: Command<'_>,
+) -> Result<(), Turned<'static>> {
+    book.is_made()?;
+    match command {
+        Command::Load { key, list } => load(rt, book, SlabFit::Spare, key, list)?,
+        Command::LoadTight { key, list } => load(rt, book, SlabFit::Tight, key, list)?,
+        Command::Append { key, n } => {
+            let to = book.append(key, n)?;
+            book_script::appended(rt, to.place, to.rewritten)?;
+        }
+        Command::Extend { key, list } => extend(rt, book, key, list)?,
+        Command::Read { key, room } => read(rt, book, key, room)?,
+        Command::Drop { key } => book_script::dropped(rt, book.drop_key(key)?)?,
+        Command::Places => book_script::places(rt, book.heads())?,
+        Command::Check => {
+            let judged = Judged(book.check()?);
+            println!(rt; "{judged}")?;
+        }
+        _ => book.show_space(rt)?,
+    }
+    Ok(())
+}
+
+// Does what is asked for.
+fn act<R: Print + AllocGlobal>(
+    rt: &R,
+    book: &mut Book,
+    command: Command<'_>,
+) -> Result<(), Turned<'static>> {
+    match command {
+        Command::Help => book_script::help(rt)?,
+        Command::Body(bytes) => {
+            book.set_body(rt.alloc(), bytes)?;
+            book_script::body_made(rt, bytes as u64)?;
+        }
+        Command::Desk { key, desk } => {
+            book.give(key, desk)?;
+            book_script::desk_told(rt, key as u64, desk as u64)?;
+        }
+        Command::Reserve { desk, pages } => {
+            book.reserve(desk, pages)?;
+            book_script::reserve_told(rt, desk as u64, pages)?;
+        }
+        Command::Ceiling { desk, pages } => {
+            book.limit(desk, pages)?;
+            book_script::ceiling_told(rt, desk as u64, pages)?;
+        }
+        Command::Keys(keys) => {
+            let bytes = book.make(keys)?;
+            book_script::keys_made(rt, keys as u64, bytes as u64)?;
+        }
+        _ => on_book(rt, book, command)?,
+    }
+    Ok(())
+}
+
+// Does a line. Its numbers go to the start of a lent list.
+fn answer<'a, R: Print + AllocGlobal>(
+    rt: &R,
+    line: Result<&'a [u8], Unread<'a>>,
+    list: &'a mut [u64],
+    book: &mut Book,
+) -> Result<(), Turned<'a>> {
+    let text = line?;
+    book_script::echo(rt, text)?;
+    match book_script::ask(text, list)? {
+        Some(command) => act(rt, book, command),
+        None => Ok(()),
+    }
+}
+
+// How many lines were refused, and how many weren't understood.
 #[derive(Clone, Copy)]
-struct Book {
-    size: usize,
-    keys: usize,
-    told: u64,
+struct Tally {
     refused: u64,
     unread: u64,
 }
 
-impl Book {
-    // A line was not understood.
-    fn puzzled(mut self) -> Self {
-        self.unread = std::num::wrapping_add_u64(self.unread, 1);
-        self
-    }
-
-    // A call was done, or refused.
-    fn after(mut self, refused: bool) -> Self {
-        self.refused = std::num::wrapping_add_u64(self.refused, refused as u64);
-        self
-    }
-
-    // A body of a size was asked for, which has no keys yet.
-    fn sized(mut self, size: u64) -> Self {
-        book_script::body_made(size);
-        self.size = size as usize;
-        self.keys = 0;
-        self.told = 0;
-        self
-    }
-
-    // A key was given to a desk.
-    fn given(mut self, key: u64) -> Self {
-        if self.told <= key {
-            self.told = std::num::wrapping_add_u64(key, 1);
+impl Tally {
+    // A line was done, or says why it wasn't.
+    fn count<P: Print>(
+        &mut self,
+        rt: &P,
+        number: u64,
+        done: Result<(), Turned<'_>>,
+    ) -> io::Result<()> {
+        match done {
+            Ok(()) => Ok(()),
+            Err(Turned::Io(e)) => Err(e),
+            Err(Turned::Unread(why)) => {
+                self.unread = self.unread.saturating_add(1);
+                book_script::report(rt, number, why)
+            }
+            Err(Turned::Refused(refusal)) => {
+                self.refused = self.refused.saturating_add(1);
+                book_script::refused(rt, refusal)
+            }
+            Err(Turned::Stopped { n, refusal }) => {
+                self.refused = self.refused.saturating_add(1);
+                book_script::stopped(rt, n, refusal)
+            }
         }
-        self
-    }
-
-    // So many keys were asked for.
-    fn with_keys(mut self, keys: usize) -> Self {
-        self.keys = keys;
-        self
     }
 }
 
-// Before a script asks for a book.
-fn none() -> Book {
-    Book {
-        size: 0,
-        keys: 0,
-        told: 0,
+// Does the lines of an input, one after another, until no more come.
+fn run<R: Print + Input + AllocGlobal>(rt: &R) -> io::Result<()> {
+    let mut lines = Lines::new(rt.alloc(), BufReader::new(rt.alloc(), rt.reader())?)?;
+    let mut list = vec![in rt.alloc(); 0; NUMBERS]?;
+    let mut book = Book::new(rt.alloc())?;
+    let mut tally = Tally {
         refused: 0,
         unread: 0,
+    };
+    for number in 1..=u64::MAX {
+        let Some(line) = lines.next_line() else {
+            break;
+        };
+        let done = answer(rt, line, &mut list, &mut book);
+        tally.count(rt, number, done)?;
     }
+    book_script::ended(rt, tally.refused, tally.unread)
 }
 
-// Keys are asked for, and the book is made fresh, where it has a body.
-fn keyed(
-    asked: Asked,
-    body: &[u8],
-    heads: &mut [u64],
-    mark: &mut u64,
-    free: &mut [u64; 9],
-    counts: &mut [u64; 49],
-    desks: &[u8],
-    reserve: &[u64; 16],
-    ceiling: &[u64; 16],
-    book: Book,
-) -> Book {
-    let size = book.size;
-    let count = asked.first as usize;
-    if size == 0 {
-        book_script::no_body(asked.number);
-        return book.puzzled();
-    }
-    if heads.len() < count {
-        return book;
-    }
-    if desks.len() < count {
-        return book;
-    }
-    if body.len() < size {
-        return book;
-    }
-    let refused = calls::fresh(
-        &body[0..size],
-        &mut heads[0..count],
-        mark,
-        free,
-        counts,
-        &desks[0..count],
-        reserve,
-        ceiling,
-    );
-    let keyed = book.with_keys(count);
-    keyed.after(refused)
-}
-
-// Shows what a book holds: a key's list, places, or the space; or says whether it is a good start. Tells whether that was refused.
-fn look(
-    asked: Asked,
-    list: &mut [u64],
-    body: &[u8],
-    heads: &[u64],
-    mark: u64,
-    free: [u64; 9],
-    counts: &[u64; 49],
-    desks: &[u8],
-) -> bool {
-    let what = asked.what;
-    match what {
-        Command::Read => calls::read(body, heads, mark, asked.first, list, asked.second),
-        Command::Places => {
-            book_script::places(heads);
-            false
-        }
-        Command::Check => calls::check(body, heads, mark, free, counts, desks),
-        _ => {
-            book_script::space(body, mark, free);
-            false
-        }
-    }
-}
-
-// Does what is asked for with a list of numbers, and tells whether it was refused.
-fn act_with(
-    asked: Asked,
-    numbers: &[u64],
-    body: &mut [u8],
-    heads: &mut [u64],
-    mark: &mut u64,
-    free: &mut [u64; 9],
-    counts: &mut [u64; 49],
-    desks: &[u8],
-) -> bool {
-    let what = asked.what;
-    let key = asked.first;
-    match what {
-        Command::Extend => calls::extend(body, heads, mark, free, counts, desks, key, numbers),
-        Command::LoadTight => {
-            let fit = SlabFit::Tight;
-            calls::load(body, heads, mark, free, counts, desks, fit, key, numbers)
-        }
-        _ => {
-            let fit = SlabFit::Spare;
-            calls::load(body, heads, mark, free, counts, desks, fit, key, numbers)
-        }
-    }
-}
-
-// Does what is asked for on the book's own bytes and heads, and tells whether it was refused.
-fn act(
-    asked: Asked,
-    list: &mut [u64],
-    body: &mut [u8],
-    heads: &mut [u64],
-    mark: &mut u64,
-    free: &mut [u64; 9],
-    counts: &mut [u64; 49],
-    desks: &[u8],
-) -> bool {
-    let what = asked.what;
-    let key = asked.first;
-    match what {
-        Command::Load | Command::LoadTight | Command::Extend => {
-            let numbers = book_script::offered(list, asked.count);
-            act_with(asked, numbers, body, heads, mark, free, counts, desks)
-        }
-        Command::Append => {
-            calls::append(body, heads, mark, free, counts, desks, key, asked.second)
-        }
-        Command::Drop => calls::drop(body, heads, mark, free, counts, desks, key),
-        _ => look(asked, list, body, heads, *mark, *free, counts, desks),
-    }
-}
-
-// Does what is asked for on the book, where there is one.
-fn on_book(
-    asked: Asked,
-    list: &mut [u64],
-    body: &mut [u8],
-    heads: &mut [u64],
-    mark: &mut u64,
-    free: &mut [u64; 9],
-    counts: &mut [u64; 49],
-    desks: &[u8],
-    book: Book,
-) -> Book {
-    let size = book.size;
-    let keys = book.keys;
-    if keys == 0 {
-        book_script::no_book(asked.number);
-        return book.puzzled();
-    }
-    if body.len() < size {
-        return book;
-    }
-    if heads.len() < keys {
-        return book;
-    }
-    if desks.len() < keys {
-        return book;
-    }
-    let refused = act(
-        asked,
-        list,
-        &mut body[0..size],
-        &mut heads[0..keys],
-        mark,
-        free,
-        counts,
-        &desks[0..keys],
-    );
-    book.after(refused)
-}
-
-// Makes all keys those of desk 0, where others were given below a key.
-fn clear_below(told: u64, desks: &mut [u8]) {
-    if (desks.len() as u64) < told {
-        return;
-    }
-    memory::clear(&mut desks[0..told as usize]);
-}
-
-// Forgets what was told of desks: all keys are of desk 0, which has no reserve, and gets all pages.
-fn without_desks(told: u64, desks: &mut [u8], reserve: &mut [u64; 16], ceiling: &mut [u64; 16]) {
-    clear_below(told, desks);
-    *reserve = [0; 16];
-    *ceiling = [u64::MAX; 16];
-}
-
-// Gives a key to a desk.
-fn give(key: u64, desk: u64, desks: &mut [u8]) {
-    if key < desks.len() as u64 {
-        desks[key as usize] = (desk % 0x100) as u8;
-        book_script::desk_told(key, desk);
-    }
-}
-
-// Keeps a line's pages for a desk, or sets the most that it gets.
-fn limit(asked: Asked, reserve: &mut [u64; 16], ceiling: &mut [u64; 16]) {
-    let what = asked.what;
-    let desk = asked.first;
-    let pages = asked.second;
-    if 16 <= desk {
-        return;
-    }
-    match what {
-        Command::Reserve => {
-            reserve[desk as usize] = pages;
-            book_script::reserve_told(desk, pages);
-        }
-        _ => {
-            ceiling[desk as usize] = pages;
-            book_script::ceiling_told(desk, pages);
-        }
-    }
-}
-
-// Notes what a line tells of desks, for the keys that are asked for next.
-fn note(
-    asked: Asked,
-    desks: &mut [u8],
-    reserve: &mut [u64; 16],
-    ceiling: &mut [u64; 16],
-    book: Book,
-) -> Book {
-    let what = asked.what;
-    match what {
-        Command::Desk => {
-            give(asked.first, asked.second, desks);
-            book.given(asked.first)
-        }
-        _ => {
-            limit(asked, reserve, ceiling);
-            book
-        }
-    }
-}
-
-// A line tells of desks, which belongs between body and keys.
-fn told(
-    asked: Asked,
-    desks: &mut [u8],
-    reserve: &mut [u64; 16],
-    ceiling: &mut [u64; 16],
-    book: Book,
-) -> Book {
-    if book.size == 0 {
-        book_script::no_body(asked.number);
-        return book.puzzled();
-    }
-    if book.keys != 0 {
-        book_script::made_already(asked.number);
-        return book.puzzled();
-    }
-    note(asked, desks, reserve, ceiling, book)
-}
-
-// Does what is asked for.
-fn answer(
-    asked: Asked,
-    list: &mut [u64],
-    body: &mut [u8],
-    heads: &mut [u64],
-    mark: &mut u64,
-    free: &mut [u64; 9],
-    counts: &mut [u64; 49],
-    desks: &mut [u8],
-    reserve: &mut [u64; 16],
-    ceiling: &mut [u64; 16],
-    book: Book,
-) -> Book {
-    let what = asked.what;
-    match what {
-        Command::Nothing => book,
-        Command::Unread => book.puzzled(),
-        Command::Help => {
-            book_script::help();
-            book
-        }
-        Command::Body => {
-            without_desks(book.told, desks, reserve, ceiling);
-            book.sized(asked.first)
-        }
-        Command::Desk | Command::Reserve | Command::Ceiling => {
-            told(asked, desks, reserve, ceiling, book)
-        }
-        Command::Keys => keyed(
-            asked, body, heads, mark, free, counts, desks, reserve, ceiling, book,
-        ),
-        _ => on_book(asked, list, body, heads, mark, free, counts, desks, book),
-    }
-}
-
-// Does a line.
-fn line(
-    number: u64,
-    line: &[u8],
-    list: &mut [u64],
-    body: &mut [u8],
-    heads: &mut [u64],
-    mark: &mut u64,
-    free: &mut [u64; 9],
-    counts: &mut [u64; 49],
-    desks: &mut [u8],
-    reserve: &mut [u64; 16],
-    ceiling: &mut [u64; 16],
-    book: Book,
-) -> Book {
-    let asked = book_script::ask(number, line, list);
-    answer(
-        asked, list, body, heads, mark, free, counts, desks, reserve, ceiling, book,
-    )
-}
-
-// Does the line that came, where one did.
-fn step(
-    at: Reading,
-    text: &[u8],
-    list: &mut [u64],
-    body: &mut [u8],
-    heads: &mut [u64],
-    mark: &mut u64,
-    free: &mut [u64; 9],
-    counts: &mut [u64; 49],
-    desks: &mut [u8],
-    reserve: &mut [u64; 16],
-    ceiling: &mut [u64; 16],
-    book: Book,
-) -> Book {
-    if at.has_line {
-        let came = book_script::line_of(text, at);
-        return line(
-            at.lines, came, list, body, heads, mark, free, counts, desks, reserve, ceiling, book,
-        );
-    }
-    book
-}
-
-// The last line of all: how many lines were refused, and how many not understood, those that were too long among them.
-fn finish(at: Reading, book: Book) {
-    let unread = std::num::wrapping_add_u64(book.unread, at.too_long);
-    book_script::ended(book.refused, unread);
-}
-
-// Does a line of an input after the other until no more text comes. A loop that is proved has to end, so its turns are counted, from a
-// number that no run uses up.
-fn run<R: Read>(
-    input: &mut R,
-    text: &mut [u8],
-    list: &mut [u64],
-    body: &mut [u8],
-    heads: &mut [u64],
-    mark: &mut u64,
-    free: &mut [u64; 9],
-    counts: &mut [u64; 49],
-    desks: &mut [u8],
-    reserve: &mut [u64; 16],
-    ceiling: &mut [u64; 16],
-) {
-    let mut at = book_script::begin();
-    let mut book = none();
-    let mut turns = u64::MAX;
-    while 0 < turns {
-        at = book_script::turn(input, text, at);
-        book = step(
-            at, text, list, body, heads, mark, free, counts, desks, reserve, ceiling, book,
-        );
-        if at.ended {
-            finish(at, book);
-            return;
-        }
-        turns -= 1;
-    }
-}
-
-fn main(rt: HostRuntime) {
-    let mut input = rt.stdin();
-    let mut text = memory::line_bytes();
-    let mut list = memory::numbers();
-    let mut body = memory::body_bytes();
-    let mut heads = memory::keys();
-    let mut mark: u64 = 0;
-    let mut free = [0u64; 9];
-    let mut counts = [0u64; 49];
-    let mut desks = memory::desk_bytes();
-    let mut reserve = [0u64; 16];
-    let mut ceiling = [u64::MAX; 16];
-    run(
-        &mut input,
-        &mut text,
-        &mut list,
-        &mut body,
-        &mut heads,
-        &mut mark,
-        &mut free,
-        &mut counts,
-        &mut desks,
-        &mut reserve,
-        &mut ceiling,
-    );
+fn main(rt: HostRuntime) -> io::Result<()> {
+    run(&rt)
 }

@@ -6,6 +6,10 @@ use mathlib.Core.Bool.{true}
 use mathlib.Core.Path.{◌≡◌, refl, sym, ap, subst, ◌∙◌}
 use borrow.Author.Tests.{lt-ltb, le-ltb, ne_eqb}
 use lib.ListN.{length}
+use native.Mathlib.Omega.{arith}
+use Rattle.error.specs.Answers.{number_of}
+use Rattle.error.specs.declared.Refusal.{Refusal}
+use Rattle.error.specs.declared.Refusal.TheVariants.{ShapeBad, KeyBeyond, KeyInUse, PageLength, LinkUnaligned, LinkTooLarge, NotLast, ExtentCountZero, ExtentBaseBad, TooManyOffered, SlabTooShort, OfferedFirstZero, OfferedBit63, OfferedTooLarge, CountAboveCapacity, VersionBad, UlebCutShort, UlebOverflow, StoredFirstZero, StoredDifferenceZero, StoredSumOverflow, StoredBit63, InlineUsedNotOne, InlineTooLarge, SlabFieldTooLarge, ExtentOutOfRange, SlabUsedTooSmall, ModeTwo, ExtentPayloadZero, KeyUnsound, OfferedNotRising, DoesNotFit, ListTooShort, FreeHeadBad, NoRoom, DesksBad, PastCeiling, IntoReserves, FreeListBad}
 use Rattle.error.specs.Refusal.{Answer, accepted, refused, answered, refusal_of, no_room}
 use Rattle.error.proofs.LawsAnswer.{refuse_yes, refuse_no, then_yes, then_no, answered_yes, answered_no, was_accepted, was_refused}
 use Rattle.scripthash_layout.specs.Sizes.{slab_bytes, page_class}
@@ -15,6 +19,48 @@ use Rattle.book_limits.specs.Limits.{slabs_end, pop_end}
 use Rattle.book_space.specs.Space.{Space, space, lists_of, with_lists, Taken, take_mark, take_slab, run_at_mark, take_fresh, take_popped}
 use Rattle.book_space.specs.Space.{take_block, space_after, release}
 use Rattle.book_space.specs.Steps.{Takes}
+
+-- A refusal's number isn't 0.
+pub number_some : (r : Refusal) → number_of r ≡ 0 → ⊥
+number_some ShapeBad e = absurd (omega arith)
+number_some KeyBeyond e = absurd (omega arith)
+number_some KeyInUse e = absurd (omega arith)
+number_some PageLength e = absurd (omega arith)
+number_some LinkUnaligned e = absurd (omega arith)
+number_some LinkTooLarge e = absurd (omega arith)
+number_some NotLast e = absurd (omega arith)
+number_some ExtentCountZero e = absurd (omega arith)
+number_some ExtentBaseBad e = absurd (omega arith)
+number_some TooManyOffered e = absurd (omega arith)
+number_some SlabTooShort e = absurd (omega arith)
+number_some OfferedFirstZero e = absurd (omega arith)
+number_some OfferedBit63 e = absurd (omega arith)
+number_some OfferedTooLarge e = absurd (omega arith)
+number_some CountAboveCapacity e = absurd (omega arith)
+number_some VersionBad e = absurd (omega arith)
+number_some UlebCutShort e = absurd (omega arith)
+number_some UlebOverflow e = absurd (omega arith)
+number_some StoredFirstZero e = absurd (omega arith)
+number_some StoredDifferenceZero e = absurd (omega arith)
+number_some StoredSumOverflow e = absurd (omega arith)
+number_some StoredBit63 e = absurd (omega arith)
+number_some InlineUsedNotOne e = absurd (omega arith)
+number_some InlineTooLarge e = absurd (omega arith)
+number_some SlabFieldTooLarge e = absurd (omega arith)
+number_some ExtentOutOfRange e = absurd (omega arith)
+number_some SlabUsedTooSmall e = absurd (omega arith)
+number_some ModeTwo e = absurd (omega arith)
+number_some ExtentPayloadZero e = absurd (omega arith)
+number_some KeyUnsound e = absurd (omega arith)
+number_some OfferedNotRising e = absurd (omega arith)
+number_some DoesNotFit e = absurd (omega arith)
+number_some ListTooShort e = absurd (omega arith)
+number_some FreeHeadBad e = absurd (omega arith)
+number_some NoRoom e = absurd (omega arith)
+number_some DesksBad e = absurd (omega arith)
+number_some PastCeiling e = absurd (omega arith)
+number_some IntoReserves e = absurd (omega arith)
+number_some FreeListBad e = absurd (omega arith)
 
 -- An answer that is a refusal refuses by the number that is asked of it.
 pub refused_as : {A : Type 0} (a : Answer A) (n : ℕ) {number : ℕ} → a ≡ refused number → n ≡ refusal_of a → a ≡ refused n

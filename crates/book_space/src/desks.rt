@@ -1,7 +1,8 @@
 // Blocks that a desk takes and gives back: each take is looked at ahead and judged by the counts, so that a refused one writes nothing.
 ghost use Rattle.std.specs.Prelude.{cond, not, ◌≡◌, ◌-◌, ◌≤◌, ◌<◌, eqb};
 ghost use Rattle.std.proofs.Math.Option.{none, some};
-ghost use Rattle.error.specs.Refusal.{answered, refusal_of};
+ghost use Rattle.error.specs.Refusal.{answered};
+ghost use Rattle.error.specs.Answers.{refusal_in};
 ghost use Rattle.scripthash_layout.specs.Sizes.{max_slab_class, page_class, slab_bytes};
 ghost use Rattle.book_limits.specs.Limits.{most_body};
 ghost use Rattle.book_desks.specs.Desks.{desks};
@@ -13,64 +14,44 @@ ghost use Rattle.book_space.specs.Steps.{ToTake, mark_after, mark_after_run, mar
 ghost use Rattle.book_space.specs.Steps.{TakesFor};
 ghost use Rattle.book_space.specs.Steps.{ToTakeRun, ToTakeFreed, ToGiveBack, GivesBack};
 
-use crate::take::{SLABS_END, TakeBlock, pop_end, run_at_mark, take_block};
+use crate::take::{SLABS_END, pop_end, run_at_mark, take_block};
 use book_desks::HELD;
 use error::Refusal;
-use free_runs::FoundRun;
 use scripthash_layout::{SH_PAGE_BYTES, SH_PAGE_SLAB_CLASS};
 
 // The free head of pages.
 const PAGES: usize = SH_PAGE_SLAB_CLASS as usize;
 
-// What a look ahead at a take answers: where the mark would stand after it, or the refusal.
-#[derive(Clone, Copy)]
-enum Peek {
-    Mark(u64),
-    Refused(Refusal),
-}
-
-impl Peek {
-    // The refusal's number, and 0 of another answer.
-    fn refusal(self) -> Refusal
-        ensures { result ≡ refusal_of (peek_answer self) }
-    {
-        match self {
-            Peek::Mark(_) => 0,
-            Peek::Refused(number) => number,
-        }
-    }
-}
-
 // Where the mark would stand after a run of pages at it.
-fn peek_run(size: u64, mark: u64, pages: u64) -> Peek
+fn peek_run(size: u64, mark: u64, pages: u64) -> Result<u64, Refusal>
     requires { (mark ≤ most_body) × (pages ≤ 65535) }
     ensures { peek_answer result ≡ mark_after_run size mark pages }
 {
     let from = (mark + (SH_PAGE_BYTES - 1)) / SH_PAGE_BYTES * SH_PAGE_BYTES;
     let end = from + pages * SH_PAGE_BYTES;
     if size < end {
-        return Peek::Refused(error::NO_ROOM);
+        return Err(Refusal::NoRoom);
     }
-    Peek::Mark(end)
+    Ok(end)
 }
 
 // Where the mark would stand after a slab of a class 0 to 7 at it.
-fn peek_slab(size: u64, mark: u64, class: u8) -> Peek
+fn peek_slab(size: u64, mark: u64, class: u8) -> Result<u64, Refusal>
     requires { (mark ≤ most_body) × (class ≤ max_slab_class) }
     ensures { peek_answer result ≡ mark_after_slab size mark (slab_bytes class) }
 {
     let end = mark + scripthash_layout::slab_bytes(class);
     if SLABS_END < end {
-        return Peek::Refused(error::NO_ROOM);
+        return Err(Refusal::NoRoom);
     }
     if size < end {
-        return Peek::Refused(error::NO_ROOM);
+        return Err(Refusal::NoRoom);
     }
-    Peek::Mark(end)
+    Ok(end)
 }
 
 // Where the mark would stand after a block of a class is taken: where it is after a freed one, or else behind a fresh one.
-fn peek_block(body: &[u8], mark: u64, free: &[u64; 9], class: u8) -> Peek
+fn peek_block(body: &[u8], mark: u64, free: &[u64; 9], class: u8) -> Result<u64, Refusal>
     requires { ToTake (space body.now mark free.now) class page_class }
     ensures { peek_answer result ≡ answered mark_after (take_block class (space body.now mark free.now)) }
 {
@@ -83,18 +64,25 @@ fn peek_block(body: &[u8], mark: u64, free: &[u64; 9], class: u8) -> Peek
         return peek_slab(body.len() as u64, mark, class);
     }
     if scripthash_free::is_block(class, off, pop_end(class, mark)) {
-        return Peek::Mark(mark);
+        return Ok(mark);
     }
-    Peek::Refused(error::FREE_HEAD_BAD)
+    Err(Refusal::FreeHeadBad)
 }
 
-// The number that a desk's take of some pages, 0 for a slab, is turned back with, or 0: by the counts, and then by the rule of desks.
-fn judge_take(counts: &[u64; 49], end: u64, desk: u64, pages: u64, freed: u64, mark: u64) -> Refusal
+// Judges a desk's take of some pages, 0 for a slab: by the counts, and then by the rule of desks.
+fn judge_take(
+    counts: &[u64; 49],
+    end: u64,
+    desk: u64,
+    pages: u64,
+    freed: u64,
+    mark: u64,
+) -> Result<(), Refusal>
     requires { Judgeable counts.now end desk pages freed mark }
-    ensures { result ≡ judged_number end desk pages freed counts.now mark }
+    ensures { refusal_in result ≡ judged_number end desk pages freed counts.now mark }
 {
     if book_desks::counts_high(counts, end) {
-        return error::SHAPE_BAD;
+        return Err(Refusal::ShapeBad);
     }
     book_desks::permission(counts, end, desk, pages, freed, mark)
 }
@@ -116,7 +104,7 @@ pub fn slab_for(
     counts: &[u64; 49],
     desk: u64,
     class: u8,
-) -> TakeBlock
+) -> Result<u64, Refusal>
     requires { ToTakeFor (space body.old mark.old free.old) desk class max_slab_class }
     ensures { TakesFor
         (slab_for desk class (space body.old mark.old free.old) counts.now)
@@ -124,14 +112,8 @@ pub fn slab_for(
         (space body.new mark.new free.new) counts.now (take_answer result) }
 {
     let low = *mark;
-    let ahead = peek_block(body, low, free, class);
-    let Peek::Mark(end) = ahead else {
-        return TakeBlock::Refused(ahead.refusal());
-    };
-    let number = judge_take(counts, body.len() as u64, desk, 0, counts[0], end);
-    if number != 0 {
-        return TakeBlock::Refused(number);
-    }
+    let end = peek_block(body, low, free, class)?;
+    judge_take(counts, body.len() as u64, desk, 0, counts[0], end)?;
     take_block(body, mark, free, class)
 }
 
@@ -165,7 +147,7 @@ pub fn page_for(
     free: &mut [u64; 9],
     counts: &mut [u64; 49],
     desk: u64,
-) -> TakeBlock
+) -> Result<u64, Refusal>
     requires { ToTakeFor (space body.old mark.old free.old) desk page_class page_class }
     ensures { TakesFor
         (page_for desk (space body.old mark.old free.old) counts.old)
@@ -175,18 +157,12 @@ pub fn page_for(
     let head = free[PAGES];
     let freed = counts[0];
     if freed_untrue(head, freed) {
-        return TakeBlock::Refused(error::FREE_HEAD_BAD);
+        return Err(Refusal::FreeHeadBad);
     }
     let low = *mark;
-    let ahead = peek_block(body, low, free, SH_PAGE_SLAB_CLASS);
-    let Peek::Mark(end) = ahead else {
-        return TakeBlock::Refused(ahead.refusal());
-    };
+    let end = peek_block(body, low, free, SH_PAGE_SLAB_CLASS)?;
     let left = freed_left(head, freed);
-    let number = judge_take(counts, body.len() as u64, desk, 1, left, end);
-    if number != 0 {
-        return TakeBlock::Refused(number);
-    }
+    judge_take(counts, body.len() as u64, desk, 1, left, end)?;
     let held = counts[HELD + desk as usize];
     put_counts(counts, left, desk, held + 1);
     take_block(body, mark, free, SH_PAGE_SLAB_CLASS)
@@ -200,7 +176,7 @@ fn run_at_mark_for(
     counts: &mut [u64; 49],
     desk: u64,
     pages: u64,
-) -> TakeBlock
+) -> Result<u64, Refusal>
     requires { ToTakeFor (space body.old mark.old free.old) desk pages 65535 }
     ensures { TakesFor
         (run_found desk pages (space body.old mark.old free.old) counts.old none)
@@ -208,15 +184,9 @@ fn run_at_mark_for(
         (space body.new mark.new free.new) counts.new (take_answer result) }
 {
     let low = *mark;
-    let ahead = peek_run(body.len() as u64, low, pages);
-    let Peek::Mark(end) = ahead else {
-        return TakeBlock::Refused(ahead.refusal());
-    };
+    let end = peek_run(body.len() as u64, low, pages)?;
     let freed = counts[0];
-    let number = judge_take(counts, body.len() as u64, desk, pages, freed, end);
-    if number != 0 {
-        return TakeBlock::Refused(number);
-    }
+    judge_take(counts, body.len() as u64, desk, pages, freed, end)?;
     let held = counts[HELD + desk as usize];
     put_counts(counts, freed, desk, held + pages);
     run_at_mark(body, mark, free, pages)
@@ -231,7 +201,7 @@ fn run_freed_for(
     desk: u64,
     pages: u64,
     off: u64,
-) -> TakeBlock
+) -> Result<u64, Refusal>
     requires { ToTakeFreed (space body.old mark free.old) counts.old desk pages off }
     ensures { TakesFor
         (run_found desk pages (space body.old mark free.old) counts.old (some off))
@@ -240,16 +210,13 @@ fn run_freed_for(
 {
     let freed = counts[0];
     let left = freed - pages;
-    let number = judge_take(counts, body.len() as u64, desk, pages, left, mark);
-    if number != 0 {
-        return TakeBlock::Refused(number);
-    }
+    judge_take(counts, body.len() as u64, desk, pages, left, mark)?;
     let held = counts[HELD + desk as usize];
     put_counts(counts, left, desk, held + pages);
     let head = free[PAGES];
     let top = free_runs::unlink(body, mark, head, freed, off, off + pages * SH_PAGE_BYTES);
     free[PAGES] = top;
-    TakeBlock::At(off)
+    Ok(off)
 }
 
 // Takes a run of pages for a desk, as a load does, and counts them: the lowest stretch of freed pages, or else a run at the mark.
@@ -260,7 +227,7 @@ pub fn run_for(
     counts: &mut [u64; 49],
     desk: u64,
     pages: u64,
-) -> TakeBlock
+) -> Result<u64, Refusal>
     requires { ToTakeRun (space body.old mark.old free.old) desk pages }
     ensures { TakesFor
         (run_for desk pages (space body.old mark.old free.old) counts.old)
@@ -269,28 +236,26 @@ pub fn run_for(
 {
     let low = *mark;
     let head = free[PAGES];
-    let found = free_runs::seek_run(body, low, head, counts[0], pages);
-    match found {
-        FoundRun::At(off) => run_freed_for(body, low, free, counts, desk, pages, off),
-        FoundRun::Nothing => run_at_mark_for(body, mark, free, counts, desk, pages),
-        FoundRun::Strays => TakeBlock::Refused(error::FREE_LIST_BAD),
+    match free_runs::seek_run(body, low, head, counts[0], pages)? {
+        Some(off) => run_freed_for(body, low, free, counts, desk, pages, off),
+        None => run_at_mark_for(body, mark, free, counts, desk, pages),
     }
 }
 
-// Gives back some pages of a desk, by the counts alone: 1 where the counts are above the pages of a body, 31 where the desk holds fewer,
-// and else 0.
-pub fn give_back(counts: &mut [u64; 49], size: u64, desk: u64, pages: u64) -> Refusal
+// Gives back some pages of a desk, by the counts alone: refused where the counts are above the pages of a body, and where the desk holds
+// fewer.
+pub fn give_back(counts: &mut [u64; 49], size: u64, desk: u64, pages: u64) -> Result<(), Refusal>
     requires { ToGiveBack desk pages }
-    ensures { GivesBack size desk pages counts.old counts.new result }
+    ensures { GivesBack size desk pages counts.old counts.new (refusal_in result) }
 {
     if book_desks::counts_high(counts, size) {
-        return error::SHAPE_BAD;
+        return Err(Refusal::ShapeBad);
     }
     let held = counts[HELD + desk as usize];
     if held < pages {
-        return error::KEY_UNSOUND;
+        return Err(Refusal::KeyUnsound);
     }
     let freed = counts[0];
     put_counts(counts, freed + pages, desk, held - pages);
-    0
+    Ok(())
 }

@@ -9,4 +9,4 @@ mod take;
 pub use desks::{give_back, page_for, run_for, slab_for};
 pub use release::release_block;
 pub use shape::{out_of_shape, shape_broken};
-pub use take::{TakeBlock, run_at_mark, take_block};
+pub use take::{run_at_mark, take_block};

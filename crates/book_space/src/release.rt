@@ -9,5 +9,5 @@ pub fn release_block(body: &mut [u8], free: &mut [u64; 9], class: u8, off: u64)
     ensures { (mark : ℕ) → space body.new mark free.new
         ≡ release (record { class = class; off = off } ∷ []) (space body.old mark free.old) }
 {
-    scripthash_free::push_lent(body, free, class, off);
+    let _ = scripthash_free::push_lent(body, free, class, off);
 }

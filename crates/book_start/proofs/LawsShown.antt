@@ -23,7 +23,8 @@ use Rattle.book_keys.specs.Steps.{PagesLeft}
 use Rattle.book_start.specs.Start.{AllApart, Stands, block, bytes_taken, shares_one, Claim, claimed, unfit, claim_all, claim_content}
 use Rattle.book_start.specs.Start.{claim_freed}
 use Rattle.book_start.specs.Units.{units_free, marked, claim_units, mark_all, cleared, Marked, Shows, ClaimsAs}
-use Rattle.book_start.specs.declared.claiming.Claiming.TheVariants.{Done, Unfit, Shared}
+use Rattle.std.specs.Prelude.{Ok, Err}
+use Rattle.book_start.specs.declared.claiming.ClaimFault.TheVariants.{Unfit, Shared}
 use Rattle.book_start.proofs.LawsClaims.{alone_each, claim_none, claim_step, claim_shared}
 use Rattle.book_start.proofs.LawsCovered.{room_for, stand_within}
 use Rattle.book_start.proofs.LawsFreed.{freed_end, freed_unfit, freed_shared, freed_step, freed_none_left}
@@ -114,7 +115,7 @@ word_unfit claims a e = rw e
 pub claims_nothing : (units mark : ℕ) (lent : List ℕ) (want : Claim) (claims : List Block) (work : List ℕ)
     → Marked units mark lent claims work
     → want ≡ claim_all claims []
-    → ClaimsAs units mark lent claims want (Done 0) work
+    → ClaimsAs units mark lent claims want (Ok 0) work
 claims_nothing units mark lent want claims work m e =
     record { claims = claims; shows = m; told = e ∙ claim_none claims; took = omega arith }
 
@@ -122,14 +123,14 @@ claims_nothing units mark lent want claims work m e =
 pub claims_unfit : (units mark : ℕ) (lent : List ℕ) (want : Claim) (claims : List Block) (work : List ℕ)
     → Marked units mark lent claims work
     → want ≡ unfit
-    → ClaimsAs units mark lent claims want Unfit work
+    → ClaimsAs units mark lent claims want (Err Unfit) work
 claims_unfit units mark lent want claims work m e = record { claims = claims; shows = m; told = e; took = tt }
 
 -- A key with one block.
 module _ (units mark : ℕ) (lent : List ℕ) (want : Claim) (claims : List Block) (work : List ℕ) (m : Marked units mark lent claims work)
     (x : Block) (stands : Stands mark x) (is : want ≡ claim_all claims (x ∷ [])) (after : List ℕ) (e : after ≡ claim_units x work) where
   pub one_claimed : (taken : ℕ) → slab_bytes x.class ≡ 16 * taken → units_free x work ≡ true
-      → ClaimsAs units mark lent claims want (Done taken) after
+      → ClaimsAs units mark lent claims want (Ok taken) after
   unfolding bytes_taken
   one_claimed taken size free =
       let y = claim_yes units mark lent claims work m x stands after free e in
@@ -140,7 +141,7 @@ module _ (units mark : ℕ) (lent : List ℕ) (want : Claim) (claims : List Bloc
         took = omega arith;
       }
 
-  pub one_shared : units_free x work ≡ false → ClaimsAs units mark lent claims want Shared after
+  pub one_shared : units_free x work ≡ false → ClaimsAs units mark lent claims want (Err Shared) after
   one_shared free =
       let y = claim_no units mark lent claims work m x stands after free e in
       record { claims = claims; shows = y.1; told = is ∙ claim_shared claims x [] y.0; took = tt }
@@ -237,7 +238,7 @@ module _ (units : ℕ) (lent : List ℕ) (before : List Block) (want : Claim) (s
 
     -- The first of them shares a byte.
     pub pages_shared : units_free (block page_class off) work ≡ false → after ≡ claim_units (block page_class off) work
-        → ClaimsAs units s.mark lent before want Shared after
+        → ClaimsAs units s.mark lent before want (Err Shared) after
     unfolding page_blocks
     pages_shared free e =
         let t = page_turn s off left g.offs more g.pages in
@@ -255,7 +256,7 @@ module _ (units : ℕ) (lent : List ℕ) (before : List Block) (want : Claim) (s
   pages_few z = let r = shown_room units s.mark lent g.claims work g.shows in let e = g.took in omega arith
 
   -- and all are claimed.
-  pub pages_end_lem : left ≡ 0 → ClaimsAs units s.mark lent before want (Done (all * 256)) work
+  pub pages_end_lem : left ≡ 0 → ClaimsAs units s.mark lent before want (Ok (all * 256)) work
   unfolding page_blocks
   pages_end_lem z =
       record {
@@ -287,7 +288,7 @@ module _ (units : ℕ) (lent : List ℕ) (before : List Block) (want : Claim) (s
   list_few = let r = shown_room units s.mark lent g.claims work g.shows in let e = g.took in omega arith
 
   -- It ends.
-  pub list_end : off ≡ 0 → ClaimsAs units s.mark lent before want (Done taken) work
+  pub list_end : off ≡ 0 → ClaimsAs units s.mark lent before want (Ok taken) work
   list_end z =
       record {
         claims = g.claims;
@@ -298,7 +299,7 @@ module _ (units : ℕ) (lent : List ℕ) (before : List Block) (want : Claim) (s
 
   module _ (more : off ≡ 0 → ⊥) where
     -- It has more blocks than there is room for.
-    pub list_long : left ≡ 0 → ClaimsAs units s.mark lent before want Shared work
+    pub list_long : left ≡ 0 → ClaimsAs units s.mark lent before want (Err Shared) work
     list_long z =
         record {
           claims = g.claims;
@@ -312,7 +313,7 @@ module _ (units : ℕ) (lent : List ℕ) (before : List Block) (want : Claim) (s
       fuel = omega arith
 
       -- The next block is one that 35 would turn back.
-      pub list_strays : is_block class off s.mark ≡ false → ClaimsAs units s.mark lent before want Unfit work
+      pub list_strays : is_block class off s.mark ≡ false → ClaimsAs units s.mark lent before want (Err Unfit) work
       list_strays e =
           record {
             claims = g.claims;
@@ -324,7 +325,7 @@ module _ (units : ℕ) (lent : List ℕ) (before : List Block) (want : Claim) (s
 
       module _ (stands : is_block class off s.mark ≡ true) (after : List ℕ) (e : after ≡ claim_units (block class off) work) where
         -- It shares a byte.
-        pub list_shared : units_free (block class off) work ≡ false → ClaimsAs units s.mark lent before want Shared after
+        pub list_shared : units_free (block class off) work ≡ false → ClaimsAs units s.mark lent before want (Err Shared) after
         list_shared free =
             let y = claim_no units s.mark lent g.claims work g.shows (block class off) stands after free e in
             record {

@@ -27,9 +27,10 @@ use Rattle.book_start.specs.Start.{claim_content, claim_freed, onward, judge_lis
 use Rattle.book_start.specs.Start.{counts_behind, verdict_of, judges}
 use Rattle.book_start.specs.Answers.{ground_of, lost_of}
 use Rattle.book_start.specs.Units.{units_of, cleared, mark_all, work_after, Marked, Leaves, claim_of, Took, ClaimsAs, JudgesAs}
-use Rattle.book_start.specs.declared.claiming.Claiming.{Claiming}
-use Rattle.book_start.specs.declared.claiming.Claiming.TheVariants.{Done, Unfit, Shared}
-use Rattle.book_start.specs.declared.judging.JudgeStart.TheVariants.{Good, KeyUnsound, KeyShares, FreeStrays, FreeShares}
+use Rattle.std.specs.Prelude.{Result, Ok, Err}
+use Rattle.book_start.specs.declared.claiming.ClaimFault.{ClaimFault}
+use Rattle.book_start.specs.declared.claiming.ClaimFault.TheVariants.{Unfit, Shared}
+use Rattle.book_start.specs.declared.judging.Verdict.TheVariants.{Good, KeyUnsound, KeyShares, FreeStrays, FreeShares}
 use Rattle.book_start.proofs.LawsBits.{units_overwrite, units_zero, units_same}
 use Rattle.book_start.proofs.LawsShown.{shown_room}
 use Rattle.book_start.proofs.LawsTally.{ground_stays, groundless}
@@ -54,11 +55,11 @@ unfolding onward
 onward_shared if_unfit if_shared after = refl
 
 -- Claiming that is done took units that were left, and leaves the others.
-pub claimed_left : (units mark : ℕ) (lent : List ℕ) (before : List Block) (want : Claim) (tells : Claiming) (work : List ℕ) (lost taken : ℕ)
-    → (c : ClaimsAs units mark lent before want tells work) → tells ≡ Done taken → Leaves mark before lost
+pub claimed_left : (units mark : ℕ) (lent : List ℕ) (before : List Block) (want : Claim) (tells : Result ℕ ClaimFault) (work : List ℕ) (lost taken : ℕ)
+    → (c : ClaimsAs units mark lent before want tells work) → tells ≡ Ok taken → Leaves mark before lost
     → (taken ≤ lost) × Leaves mark c.claims (lost - taken)
 claimed_left units mark lent before want tells work lost taken c e left =
-    let took : Took before c.claims (Done taken) = subst (λ (t : Claiming). Took before c.claims t) e c.took in
+    let took : Took before c.claims (Ok taken) = subst (λ (t : Result ℕ ClaimFault). Took before c.claims t) e c.took in
     let room = shown_room units mark lent c.claims work c.shows in
     (omega arith, omega arith)
 
@@ -79,7 +80,7 @@ module _ (units : ℕ) (lent : List ℕ) (want : Verdict) (s : Space) (class : �
     unfolding judge_lists
     first = sym g.gives ∙ ap (λ (hs : List ℕ). judge_lists s class hs g.claims) (drop-cons s.free class 0 more) ∙ rw (add-one class)
 
-    module _ (after : List ℕ) (tells : Claiming)
+    module _ (after : List ℕ) (tells : Result ℕ ClaimFault)
         (c : ClaimsAs units s.mark lent g.claims (claim_freed (s.mark / 16) s class g.claims
         (get_or s.free class 0)) tells after) where
       told : want ≡ onward (claim_of tells c.claims) (free_strays class) (free_shares class) (λ bs. judge_lists s (class + 1) (drop
@@ -87,39 +88,39 @@ module _ (units : ℕ) (lent : List ℕ) (want : Verdict) (s : Space) (class : �
       told = first ∙ onward_is _ _ (free_strays class) (free_shares class) _ c.told
 
       -- The list is claimed: what it takes was left,
-      pub lists_took : (taken : ℕ) → tells ≡ Done taken → taken ≤ lost
+      pub lists_took : (taken : ℕ) → tells ≡ Ok taken → taken ≤ lost
       lists_took taken e = (claimed_left units s.mark lent g.claims _ tells after lost taken c e g.left).0
 
       -- and the lists behind it are judged.
-      pub lists_turn : (taken : ℕ) → tells ≡ Done taken → ListsGo units lent want s (class + 1) after (lost - taken)
+      pub lists_turn : (taken : ℕ) → tells ≡ Ok taken → ListsGo units lent want s (class + 1) after (lost - taken)
       lists_turn taken e =
           record {
             claims = c.claims;
             shows = c.shows;
             left = (claimed_left units s.mark lent g.claims _ tells after lost taken c e g.left).1;
-            gives = sym (told ∙ onward_is _ _ (free_strays class) (free_shares class) _ (ap (λ (t : Claiming). claim_of t c.claims) e)
+            gives = sym (told ∙ onward_is _ _ (free_strays class) (free_shares class) _ (ap (λ (t : Result ℕ ClaimFault). claim_of t c.claims) e)
                 ∙ onward_claimed c.claims (free_strays class) (free_shares class) _);
           }
 
       -- It has a block that 35 would turn back.
-      pub lists_strays : tells ≡ Unfit → JudgesAs units s.mark lent want (FreeStrays class) after
+      pub lists_strays : tells ≡ Err Unfit → JudgesAs units s.mark lent want (FreeStrays class) after
       lists_strays e =
           record {
             claims = c.claims;
             shows = c.shows;
-            told = ap accepted
-                (sym (told ∙ onward_is _ _ (free_strays class) (free_shares class) _ (ap (λ (t : Claiming). claim_of t c.claims) e)
+            told =
+                (sym (told ∙ onward_is _ _ (free_strays class) (free_shares class) _ (ap (λ (t : Result ℕ ClaimFault). claim_of t c.claims) e)
                 ∙ onward_unfit (free_strays class) (free_shares class) _));
           }
 
       -- It has a block that shares a byte.
-      pub lists_shared : tells ≡ Shared → JudgesAs units s.mark lent want (FreeShares class) after
+      pub lists_shared : tells ≡ Err Shared → JudgesAs units s.mark lent want (FreeShares class) after
       lists_shared e =
           record {
             claims = c.claims;
             shows = c.shows;
-            told = ap accepted
-                (sym (told ∙ onward_is _ _ (free_strays class) (free_shares class) _ (ap (λ (t : Claiming). claim_of t c.claims) e)
+            told =
+                (sym (told ∙ onward_is _ _ (free_strays class) (free_shares class) _ (ap (λ (t : Result ℕ ClaimFault). claim_of t c.claims) e)
                 ∙ onward_shared (free_strays class) (free_shares class) _));
           }
 
@@ -132,7 +133,7 @@ module _ (units : ℕ) (lent : List ℕ) (want : Verdict) (s : Space) (class : �
       record {
         claims = g.claims;
         shows = g.shows;
-        told = ap accepted
+        told =
             (ap good rest ∙ ap (λ (hs : List ℕ). judge_lists s class hs g.claims) (sym (drop_of_length-le s.free {i = class} h))
             ∙ g.gives);
       }
@@ -158,7 +159,7 @@ module _ (units : ℕ) (lent : List ℕ) (want : Verdict) (s : Space) (heads : L
         sym g.gives ∙ ap (λ (ws : List ℕ). judge_keys s key ws g.claims) (drop-cons heads key 0 more)
         ∙ rw (add-one key)
 
-    module _ (after : List ℕ) (tells : Claiming)
+    module _ (after : List ℕ) (tells : Result ℕ ClaimFault)
         (c : ClaimsAs units s.mark lent g.claims (claim_content g.claims (content (body_ground s.body s.mark)
         (get_or heads key 0))) tells after) where
       told_key : want ≡ onward (claim_of tells c.claims) (key_unsound key) (key_shares key) (λ bs. judge_keys s (key + 1) (drop
@@ -166,39 +167,39 @@ module _ (units : ℕ) (lent : List ℕ) (want : Verdict) (s : Space) (heads : L
       told_key = first_key ∙ onward_is _ _ (key_unsound key) (key_shares key) _ c.told
 
       -- The key is claimed: what it takes was left,
-      pub keys_took : (taken : ℕ) → tells ≡ Done taken → taken ≤ lost
+      pub keys_took : (taken : ℕ) → tells ≡ Ok taken → taken ≤ lost
       keys_took taken e = (claimed_left units s.mark lent g.claims _ tells after lost taken c e g.left).0
 
       -- and the keys behind it are judged.
-      pub keys_turn : (taken : ℕ) → tells ≡ Done taken → KeysGo units lent want s heads (key + 1) after (lost - taken)
+      pub keys_turn : (taken : ℕ) → tells ≡ Ok taken → KeysGo units lent want s heads (key + 1) after (lost - taken)
       keys_turn taken e =
           record {
             claims = c.claims;
             shows = c.shows;
             left = (claimed_left units s.mark lent g.claims _ tells after lost taken c e g.left).1;
-            gives = sym (told_key ∙ onward_is _ _ (key_unsound key) (key_shares key) _ (ap (λ (t : Claiming). claim_of t c.claims) e)
+            gives = sym (told_key ∙ onward_is _ _ (key_unsound key) (key_shares key) _ (ap (λ (t : Result ℕ ClaimFault). claim_of t c.claims) e)
                 ∙ onward_claimed c.claims (key_unsound key) (key_shares key) _);
           }
 
       -- It isn't sound.
-      pub keys_unsound : tells ≡ Unfit → JudgesAs units s.mark lent want (KeyUnsound key) after
+      pub keys_unsound : tells ≡ Err Unfit → JudgesAs units s.mark lent want (KeyUnsound key) after
       keys_unsound e =
           record {
             claims = c.claims;
             shows = c.shows;
-            told = ap accepted
-                (sym (told_key ∙ onward_is _ _ (key_unsound key) (key_shares key) _ (ap (λ (t : Claiming). claim_of t c.claims) e)
+            told =
+                (sym (told_key ∙ onward_is _ _ (key_unsound key) (key_shares key) _ (ap (λ (t : Result ℕ ClaimFault). claim_of t c.claims) e)
                 ∙ onward_unfit (key_unsound key) (key_shares key) _));
           }
 
       -- It has a block that shares a byte.
-      pub keys_shared : tells ≡ Shared → JudgesAs units s.mark lent want (KeyShares key) after
+      pub keys_shared : tells ≡ Err Shared → JudgesAs units s.mark lent want (KeyShares key) after
       keys_shared e =
           record {
             claims = c.claims;
             shows = c.shows;
-            told = ap accepted
-                (sym (told_key ∙ onward_is _ _ (key_unsound key) (key_shares key) _ (ap (λ (t : Claiming). claim_of t c.claims) e)
+            told =
+                (sym (told_key ∙ onward_is _ _ (key_unsound key) (key_shares key) _ (ap (λ (t : Result ℕ ClaimFault). claim_of t c.claims) e)
                 ∙ onward_shared (key_unsound key) (key_shares key) _));
           }
 

@@ -1,29 +1,32 @@
--- What the answers of the code mean: a refusal's number (FORMAT, Refusals) or the verdict for each of their cases.
-use Rattle.std.specs.Prelude.{ℕ}
-use Rattle.error.specs.Refusal.{Answer, accepted, refused}
+-- What the answers of the code mean: a refusal's number (FORMAT, Refusals), or the verdict.
+use Rattle.std.specs.Prelude.{ℕ, Result}
+use Rattle.error.specs.Refusal.{Answer}
+use Rattle.error.specs.Answers.{result_answer}
+use Rattle.error.specs.declared.Refusal.{Refusal}
 use Rattle.book_start.specs.Start.{Verdict, good, key_unsound, key_shares, free_strays, free_shares, counts_exceed, freed_differs}
 use Rattle.book_start.specs.Start.{held_differs, held_high, reserve_high, lacks_open}
-use Rattle.book_start.specs.declared.judging.JudgeStart.{JudgeStart}
-use Rattle.book_start.specs.declared.judging.JudgeStart.TheVariants.{Good, KeyUnsound, KeyShares, FreeStrays, FreeShares}
-use Rattle.book_start.specs.declared.judging.JudgeStart.TheVariants.{CountsExceed, FreedDiffers, HeldDiffers, HeldHigh}
-use Rattle.book_start.specs.declared.judging.JudgeStart.TheVariants.{ReserveHigh, LacksOpen, Refused}
-use Rattle.book_start.specs.declared.answers.BookFresh.{BookFresh}
-use Rattle.book_start.specs.declared.answers.BookFresh.TheVariants.{Made, Refused as NotMade}
+use Rattle.book_start.specs.declared.judging.Verdict.{Verdict as Found}
+use Rattle.book_start.specs.declared.judging.Verdict.TheVariants.{Good, KeyUnsound, KeyShares, FreeStrays, FreeShares}
+use Rattle.book_start.specs.declared.judging.Verdict.TheVariants.{CountsExceed, FreedDiffers, HeldDiffers, HeldHigh}
+use Rattle.book_start.specs.declared.judging.Verdict.TheVariants.{ReserveHigh, LacksOpen}
+
+-- The verdict that the code finds.
+abbrev pub verdict_of : Found → Verdict
+verdict_of (Good lost) = good lost
+verdict_of (KeyUnsound key) = key_unsound key
+verdict_of (KeyShares key) = key_shares key
+verdict_of (FreeStrays class) = free_strays class
+verdict_of (FreeShares class) = free_shares class
+verdict_of CountsExceed = counts_exceed
+verdict_of FreedDiffers = freed_differs
+verdict_of (HeldDiffers desk) = held_differs desk
+verdict_of (HeldHigh desk) = held_high desk
+verdict_of (ReserveHigh desk) = reserve_high desk
+verdict_of LacksOpen = lacks_open
 
 -- The answer of `judge_start`.
-abbrev pub start_answer : JudgeStart → Answer Verdict
-start_answer (Good lost) = accepted (good lost)
-start_answer (KeyUnsound key) = accepted (key_unsound key)
-start_answer (KeyShares key) = accepted (key_shares key)
-start_answer (FreeStrays class) = accepted (free_strays class)
-start_answer (FreeShares class) = accepted (free_shares class)
-start_answer CountsExceed = accepted counts_exceed
-start_answer FreedDiffers = accepted freed_differs
-start_answer (HeldDiffers desk) = accepted (held_differs desk)
-start_answer (HeldHigh desk) = accepted (held_high desk)
-start_answer (ReserveHigh desk) = accepted (reserve_high desk)
-start_answer LacksOpen = accepted lacks_open
-start_answer (Refused number) = refused number
+abbrev pub start_answer : Result Found Refusal → Answer Verdict
+start_answer = result_answer verdict_of
 
 -- The number of a verdict's ground, as it goes out.
 abbrev pub ground_of : Verdict → ℕ
@@ -68,6 +71,5 @@ lost_of (reserve_high desk) = 0
 lost_of lacks_open = 0
 
 -- The answer of `fresh`.
-abbrev pub fresh_answer : BookFresh → Answer (Unit {0})
-fresh_answer Made = accepted tt
-fresh_answer (NotMade number) = refused number
+abbrev pub fresh_answer : Result (Unit {0}) Refusal → Answer (Unit {0})
+fresh_answer = result_answer (λ made. tt)

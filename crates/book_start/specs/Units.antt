@@ -1,14 +1,14 @@
 -- The work list of a judgement: a bit for each unit, which is 16 bytes of the body. It is 1 where a claimed block has the unit, else 0.
-use Rattle.std.specs.Prelude.{ℕ, zero, suc, ◌+◌, ◌*◌, ◌/◌, ◌%◌, ◌≤◌, Bool, true, cond, ◌&&◌, List, [], ◌∷◌, ◌++◌, ◌≡◌, eqb, length, replicate}
+use Rattle.std.specs.Prelude.{ℕ, zero, suc, ◌+◌, ◌*◌, ◌/◌, ◌%◌, ◌≤◌, Bool, true, cond, ◌&&◌, List, [], ◌∷◌, ◌++◌, ◌≡◌, eqb, length, replicate, Result, Ok, Err}
 use Rattle.error.specs.Refusal.{Answer, accepted, refused}
 use Rattle.buffer.specs.Bytes.{part, overwrite}
 use Rattle.scripthash_layout.specs.Sizes.{slab_bytes}
 use Rattle.scripthash_free.specs.FreeList.{Block, Each}
 use Rattle.book_start.specs.Start.{AllApart, Stands, bytes_taken, Verdict, Claim, claimed, unfit, shared}
-use Rattle.book_start.specs.Answers.{start_answer}
-use Rattle.book_start.specs.declared.claiming.Claiming.{Claiming}
-use Rattle.book_start.specs.declared.claiming.Claiming.TheVariants.{Done, Unfit, Shared}
-use Rattle.book_start.specs.declared.judging.JudgeStart.{JudgeStart}
+use Rattle.book_start.specs.Answers.{verdict_of}
+use Rattle.book_start.specs.declared.claiming.ClaimFault.{ClaimFault}
+use Rattle.book_start.specs.declared.claiming.ClaimFault.TheVariants.{Unfit, Shared}
+use Rattle.book_start.specs.declared.judging.Verdict.{Verdict as Found}
 
 -- ---- bits
 
@@ -83,20 +83,20 @@ abbrev pub Leaves : ℕ → List Block → ℕ → Type 0
 Leaves mark claims lost = 4096 + (bytes_taken claims + 16 * lost) ≡ mark
 
 -- What claiming gives that is told so, where these blocks are claimed at its end.
-abbrev pub claim_of : Claiming → List Block → Claim
-claim_of (Done taken) bs = claimed bs
-claim_of Unfit bs = unfit
-claim_of Shared bs = shared
+abbrev pub claim_of : Result ℕ ClaimFault → List Block → Claim
+claim_of (Ok taken) bs = claimed bs
+claim_of (Err Unfit) bs = unfit
+claim_of (Err Shared) bs = shared
 
 -- The units that claiming tells are those that it took, where some blocks were claimed before and others are at its end.
-abbrev pub Took : List Block → List Block → Claiming → Type 0
-Took before bs (Done taken) = bytes_taken bs ≡ bytes_taken before + 16 * taken
-Took before bs Unfit = Unit {0}
-Took before bs Shared = Unit {0}
+abbrev pub Took : List Block → List Block → Result ℕ ClaimFault → Type 0
+Took before bs (Ok taken) = bytes_taken bs ≡ bytes_taken before + 16 * taken
+Took before bs (Err Unfit) = Unit {0}
+Took before bs (Err Shared) = Unit {0}
 
 -- Claiming behind some blocks gives what is wanted and tells the units that it took, and the work list shows the blocks that are claimed
 -- at its end.
-pub record ClaimsAs (units mark : ℕ) (lent : List ℕ) (before : List Block) (want : Claim) (tells : Claiming)
+pub record ClaimsAs (units mark : ℕ) (lent : List ℕ) (before : List Block) (want : Claim) (tells : Result ℕ ClaimFault)
     (work : List ℕ) : Type 0 where
   pub claims : List Block
   pub shows : Marked units mark lent claims work
@@ -104,7 +104,7 @@ pub record ClaimsAs (units mark : ℕ) (lent : List ℕ) (before : List Block) (
   pub took : Took before claims tells
 
 -- A part of a judgement gives the wanted verdict, and the work list shows the blocks that are claimed at its end.
-pub record JudgesAs (units mark : ℕ) (lent : List ℕ) (want : Verdict) (tells : JudgeStart) (work : List ℕ) : Type 0 where
+pub record JudgesAs (units mark : ℕ) (lent : List ℕ) (want : Verdict) (tells : Found) (work : List ℕ) : Type 0 where
   pub claims : List Block
   pub shows : Marked units mark lent claims work
-  pub told : start_answer tells ≡ accepted want
+  pub told : verdict_of tells ≡ want

@@ -3,13 +3,11 @@
 // and promise only what can be kept. Nothing is allocated: a lent work list has a bit for each 16 bytes of the body.
 #![tactic(auto)]
 
-mod answers;
 mod claiming;
 mod counts;
 mod judging;
 mod making;
 mod units;
 
-pub use answers::BookFresh;
-pub use judging::{JudgeStart, judge_start};
+pub use judging::{Verdict, judge_start};
 pub use making::fresh;

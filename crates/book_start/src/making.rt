@@ -1,6 +1,7 @@
 // Making a book fresh.
 ghost use Rattle.std.specs.Prelude.{◌≡◌, length, replicate};
 ghost use Rattle.error.specs.Refusal.{answered};
+ghost use Rattle.error.specs.Answers.{refusal_in};
 ghost use Rattle.book_desks.specs.Desks.{Limits, desks, reserve_high};
 ghost use Rattle.book_desks.specs.Counts.{limits_in, fresh_counts};
 ghost use Rattle.book.specs.Book.{Book};
@@ -8,32 +9,18 @@ ghost use Rattle.book.specs.Answers.{book_of};
 ghost use Rattle.book_start.specs.Making.{limits_of, makes_fresh, made_after, making_number};
 ghost use Rattle.book_start.specs.Answers.{fresh_answer};
 
-use crate::answers::BookFresh;
 use book_desks::{CEILING, DESKS, RESERVE};
 use error::Refusal;
 use scripthash_layout::{SH_PAGE_BYTES, SH_PREFIX_PAGE};
-
-// Makes every word 0.
-fn clear_words(words: &mut [u64])
-    ensures { words.new ≡ replicate (length words.old) 0 }
-{
-    let mut i: usize = 0;
-    while i < words.len() {
-        words[i] = 0;
-        i += 1;
-    }
-}
 
 // The counts of a fresh book: nothing is freed or held, and the limits are as given.
 fn fresh_counts(reserve: &[u64; 16], ceiling: &[u64; 16]) -> [u64; 49]
     ensures { result ≡ fresh_counts (limits_of reserve.now ceiling.now) }
 {
     let mut words: [u64; 49] = [0; 49];
-    let mut d: usize = 0;
-    while d < DESKS {
+    for d in 0..DESKS {
         words[RESERVE + d] = reserve[d];
         words[CEILING + d] = ceiling[d];
-        d += 1;
     }
     words
 }
@@ -42,37 +29,34 @@ fn fresh_counts(reserve: &[u64; 16], ceiling: &[u64; 16]) -> [u64; 49]
 fn above_ceiling(counts: &[u64; 49]) -> bool
     ensures { result ≡ reserve_high desks (limits_in counts.now) }
 {
-    let mut d: usize = 0;
-    while d < DESKS {
+    for d in 0..DESKS {
         if counts[CEILING + d] < counts[RESERVE + d] {
             return true;
         }
-        d += 1;
     }
     false
 }
 
-// The number that a making of a book of so many bytes and heads is turned back with, or 0: its counts would be these. What a fresh book
-// lacks is the sum of its reserves.
-fn making_number(size: usize, heads: usize, desks: &[u8], counts: &[u64; 49]) -> Refusal
-    ensures { (l : Limits) → counts.now ≡ fresh_counts l → result ≡ making_number desks.now size heads l }
+// Judges a making of a book of so many bytes and heads, whose counts would be these. What a fresh book lacks is the sum of its reserves.
+fn judge_making(size: usize, heads: usize, desks: &[u8], counts: &[u64; 49]) -> Result<(), Refusal>
+    ensures { (l : Limits) → counts.now ≡ fresh_counts l → refusal_in result ≡ making_number desks.now size heads l }
 {
     if book_space::out_of_shape(size, heads) {
-        return error::SHAPE_BAD;
+        return Err(Refusal::ShapeBad);
     }
     if book_desks::counts_high(counts, size as u64) {
-        return error::SHAPE_BAD;
+        return Err(Refusal::ShapeBad);
     }
     if book_desks::list_bad(desks, heads) {
-        return error::DESKS_BAD;
+        return Err(Refusal::DesksBad);
     }
     if size as u64 / SH_PAGE_BYTES - 1 < book_desks::sum_of_lacks(counts) {
-        return error::DESKS_BAD;
+        return Err(Refusal::DesksBad);
     }
     if above_ceiling(counts) {
-        return error::DESKS_BAD;
+        return Err(Refusal::DesksBad);
     }
-    0
+    Ok(())
 }
 
 // Makes a book fresh over a body, which stays as it is: heads and free heads become 0, the mark 4,096, and the counts those of desks that
@@ -86,7 +70,7 @@ pub fn fresh(
     desks: &[u8],
     reserve: &[u64; 16],
     ceiling: &[u64; 16],
-) -> BookFresh
+) -> Result<(), Refusal>
     ensures answer { fresh_answer result ≡ answered (λ (b : Book). tt)
         (makes_fresh desks.now (limits_of reserve.now ceiling.now)
         (book_of body.now heads.old mark.old free.old counts.old)) }
@@ -96,13 +80,10 @@ pub fn fresh(
         (book_of body.now heads.old mark.old free.old counts.old)) }
 {
     let words = fresh_counts(reserve, ceiling);
-    let number = making_number(body.len(), heads.len(), desks, &words);
-    if number != 0 {
-        return BookFresh::Refused(number);
-    }
-    clear_words(heads);
+    judge_making(body.len(), heads.len(), desks, &words)?;
+    heads.fill(0);
     *mark = SH_PREFIX_PAGE;
     *free = [0; 9];
     *counts = words;
-    BookFresh::Made
+    Ok(())
 }

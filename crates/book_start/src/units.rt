@@ -30,12 +30,10 @@ fn bytes_free(work: &[u8], from: usize, count: usize) -> bool
     ensures { result ≡ all_free (part work.now from count) }
 {
     let end = from + count;
-    let mut i = from;
-    while i < end {
+    for i in from..end {
         if work[i] != 0 {
             return false;
         }
-        i += 1;
     }
     true
 }
@@ -46,10 +44,8 @@ pub fn fill_bytes(work: &mut [u8], from: usize, count: usize, value: u8)
     ensures { work.new ≡ overwrite work.old from (replicate count value) }
 {
     let end = from + count;
-    let mut i = from;
-    while i < end {
+    for i in from..end {
         work[i] = value;
-        i += 1;
     }
 }
 
@@ -70,12 +66,10 @@ fn units_free(work: &[u8], from: usize, count: usize) -> bool
     ensures { result ≡ all_free (part (units_of work.now) from count) }
 {
     let end = from + count;
-    let mut i = from;
-    while i < end {
+    for i in from..end {
         if (work[i / 8] >> (i % 8)) % 2 != 0 {
             return false;
         }
-        i += 1;
     }
     true
 }
@@ -86,11 +80,9 @@ fn mark_units(work: &mut [u8], from: usize, count: usize)
     ensures { units_of work.new ≡ overwrite (units_of work.old) from (replicate count 1) }
 {
     let end = from + count;
-    let mut i = from;
-    while i < end {
+    for i in from..end {
         let at = i / 8;
         work[at] = with_bit(work[at], i % 8);
-        i += 1;
     }
 }
 

@@ -50,3 +50,9 @@ overwrite_part b o k i ys h l =
     sym (drop-append-le (i + length ys) (take k d) (drop k d) inside) ∙ ap (drop (i + length ys)) (take-append-drop k d) in
     let place : o + (i + length ys) ≡ o + i + length ys = omega arith in
     rw (front, append_assoc, append_assoc, back, take-add o i b, append_assoc, ← place, ← (drop-drop (i + length ys) o b))
+
+-- a lent part of k elements from offset o on that holds ys when it is given back is a write into the whole
+pub overwrite_lent : {A : Type 0} (b : List A) (o k : ℕ) (ys : List A) → length ys ≡ k
+    → take o b ++ (ys ++ drop k (drop o b)) ≡ overwrite b o ys
+unfolding overwrite
+overwrite_lent b o k ys e = rw (drop-drop k o b, e)

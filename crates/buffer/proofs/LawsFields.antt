@@ -1,17 +1,16 @@
 -- Laws of numbers at an offset of a buffer, each over the widths: a number of j + k bytes is the number of its first j and
 -- 256 ^ j times that of the k behind them, and its bytes are those of the two, written one after the other.
-use mathlib.Core.Path.{◌≡◌, refl, ap, sym, ◌∙◌}
+use mathlib.Core.Path.{◌≡◌, ap, ◌∙◌}
 use mathlib.Core.List.{List, [], ◌∷◌, ◌++◌}
-use Prim.Native.Nat.{ℕ, zero, suc, ◌+◌, ◌*◌, ◌/◌, ◌%◌, ◌^◌, ◌<◌, ◌≤◌}
-use native.Mathlib.Nat.{zero-add, suc-add, pow-suc, pow-succ', mul_assoc, div-div-eq-div-mul, add-mul-div_left, div-eq_of_lt, one-le-pow}
+use Prim.Native.Nat.{ℕ, suc, ◌+◌, ◌*◌, ◌/◌, ◌^◌, ◌<◌, ◌≤◌}
+use native.Mathlib.Nat.{zero-add, pow-succ', mul_assoc, add-mul-div_left, div-eq_of_lt, one-le-pow}
 use native.Mathlib.Omega.{arith}
-use lib.Arith.{mod-mul}
 use lib.ListN.{length, drop}
 use lib.Seq.{take-add, drop-drop}
-use Rattle.buffer.specs.Bytes.{part, overwrite}
-use Rattle.buffer.specs.LittleEndian.{little_endian, bytes_of, AreBytes}
-use Rattle.buffer.proofs.LawsLittleEndian.{length_bytes_of, little_endian_below, part_bytes}
-use Rattle.buffer.proofs.LawsOverwrite.{length_part, overwrite_adjoin}
+use Rattle.buffer.specs.Bytes.{part}
+use Rattle.buffer.specs.LittleEndian.{little_endian, AreBytes}
+use Rattle.buffer.proofs.LawsLittleEndian.{little_endian_below, part_bytes}
+use Rattle.buffer.proofs.LawsOverwrite.{length_part}
 
 -- A part is its first j elements and the k behind them.
 pub part_add : (b : List ℕ) (o j k : ℕ) → part b o (j + k) ≡ part b o j ++ part b (o + j) k
@@ -43,32 +42,3 @@ little_endian_upper b o j k bytes h =
     let below : low < 256 ^ j = rw (length_part b o j h) at (little_endian_below (part b o j) (part_bytes b o j bytes)) in
     ap (λ (n : ℕ). n / 256 ^ j) (little_endian_halves b o j k h) ∙ add-mul-div_left low high pos
     ∙ ap (λ (n : ℕ). n + high) (div-eq_of_lt below) ∙ zero-add high
-
--- A number's j + k lowest bytes are its j lowest, and the k behind them.
-pub bytes_of_add : (j k n : ℕ) → bytes_of (j + k) n ≡ bytes_of j n ++ bytes_of k (n / 256 ^ j)
-bytes_of_add zero k n = let whole : n / 1 ≡ n = omega arith in rw (zero-add k, whole)
-bytes_of_add (suc j) k n =
-    let further : n / 256 / 256 ^ j ≡ n / 256 ^ suc j =
-    div-div-eq-div-mul n 256 (256 ^ j) ∙ ap (λ (p : ℕ). n / p) (sym (pow-succ' 256 j)) in
-    ap (λ (m : ℕ). bytes_of m n) (suc-add j k)
-    ∙ ap (λ (l : List ℕ). n % 256 ∷ l) (bytes_of_add j k (n / 256) ∙ ap (λ (m : ℕ). bytes_of j (n / 256) ++ bytes_of k m) further)
-
--- A number's j lowest bytes are those of its remainder by 256 ^ j.
-pub bytes_of_mod : (j n : ℕ) → bytes_of j (n % 256 ^ j) ≡ bytes_of j n
-bytes_of_mod zero n = refl
-bytes_of_mod (suc j) n =
-    let pos : 0 < 256 ^ j = one-le-pow j 256 (omega arith) in
-    let apart : n % 256 ^ suc j ≡ n / 256 % 256 ^ j * 256 + n % 256 =
-    ap (λ (p : ℕ). n % p) (pow-suc 256 j) ∙ mod-mul n {m = 256 ^ j} {c = 256} pos (omega arith) in
-    let low : n % 256 ^ suc j % 256 ≡ n % 256 = omega arith in
-    let high : n % 256 ^ suc j / 256 ≡ n / 256 % 256 ^ j = omega arith in
-    rw (low, high, bytes_of_mod j (n / 256))
-
--- A number's j lowest bytes written, and the k others behind them, is the number written.
-pub overwrite_halves : (b : List ℕ) (o j k n : ℕ) → o + j ≤ length b
-    → overwrite (overwrite b o (bytes_of j (n % 256 ^ j))) (o + j) (bytes_of k (n / 256 ^ j)) ≡ overwrite b o (bytes_of (j + k) n)
-overwrite_halves b o j k n h =
-    ap (λ (l : List ℕ). overwrite (overwrite b o l) (o + j) (bytes_of k (n / 256 ^ j))) (bytes_of_mod j n)
-    ∙ ap (λ (m : ℕ). overwrite (overwrite b o (bytes_of j n)) (o + m) (bytes_of k (n / 256 ^ j))) (sym (length_bytes_of j n))
-    ∙ overwrite_adjoin b o (bytes_of j n) (bytes_of k (n / 256 ^ j)) (omega arith)
-    ∙ ap (overwrite b o) (sym (bytes_of_add j k n))

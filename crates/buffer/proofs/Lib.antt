@@ -4,3 +4,4 @@ pub mod LawsApart
 pub mod LawsLittleEndian
 pub mod LawsOverwrite
 pub mod LawsFields
+pub mod LawsEight

@@ -7,14 +7,13 @@ use native.Mathlib.Numerals.{add-one}
 use borrow.Author.Tests.{le-leb, lt-leb, lt-ltb, le-ltb}
 use lib.ListN.{length, take, drop, set, drop_of_length-le, get_or}
 use lib.Seq.{drop-cons}
+use Rattle.std.specs.Prelude.{Result, Ok, Err}
 use Rattle.decimal.specs.Decimal.{read_decimal}
 use Rattle.decimal.specs.Words.{Word, word_at, words_in, words_from, TakenWords, take_word, take_words, after_word, Skips, Ends}
-use Rattle.decimal.specs.declared.ReadDecimal.{ReadDecimal}
-use Rattle.decimal.specs.declared.ReadDecimal.TheVariants.{Number, NotANumber as no_number, TooLarge as large_number}
-use Rattle.decimal.specs.declared.words.Numbers.{Numbers}
-use Rattle.decimal.specs.declared.words.Numbers.TheVariants.{Read, TooMany, NotANumber, TooLarge}
-use Rattle.decimal.specs.declared.words.PutWord.{PutWord}
-use Rattle.decimal.specs.declared.words.PutWord.TheVariants.{Put, Stopped}
+use Rattle.decimal.specs.declared.DecimalError.{DecimalError}
+use Rattle.decimal.specs.declared.DecimalError.TheVariants.{NotANumber as no_number, TooLarge as large_number}
+use Rattle.decimal.specs.declared.words.NumbersError.{NumbersError}
+use Rattle.decimal.specs.declared.words.NumbersError.TheVariants.{TooMany, NotANumber, TooLarge}
 
 module _ (line : List ℕ) (i : ℕ) where
   -- behind the last byte there is no word, and a word that goes on to there ends
@@ -54,22 +53,22 @@ words_next line at start end s h e = s.same ∙ (words_begin line start h (s.beg
 
 -- ---- one word
 
-module _ (read : ReadDecimal) (start end : ℕ) (list : List ℕ) (count : ℕ) (more : List ℕ → TakenWords) where
-  pub word_put : (n : ℕ) → read ≡ Number n → count < length list
-      → take_word read start end list count more ≡ after_word Put (set list count n) more
+module _ (read : Result ℕ DecimalError) (start end : ℕ) (list : List ℕ) (count : ℕ) (more : List ℕ → TakenWords) where
+  pub word_put : (n : ℕ) → read ≡ Ok n → count < length list
+      → take_word read start end list count more ≡ after_word (Ok tt) (set list count n) more
   unfolding take_word after_word
   word_put n e h = rw (e, lt-ltb count (length list) h)
 
-  pub word_full : (n : ℕ) → read ≡ Number n → length list ≤ count
-      → take_word read start end list count more ≡ after_word (Stopped TooMany) list more
+  pub word_full : (n : ℕ) → read ≡ Ok n → length list ≤ count
+      → take_word read start end list count more ≡ after_word (Err TooMany) list more
   unfolding take_word after_word
   word_full n e h = rw (e, le-ltb count (length list) h)
 
-  pub word_none : read ≡ no_number → take_word read start end list count more ≡ after_word (Stopped (NotANumber start end)) list more
+  pub word_none : read ≡ Err no_number → take_word read start end list count more ≡ after_word (Err (NotANumber start end)) list more
   unfolding take_word after_word
   word_none e = rw e
 
-  pub word_large : read ≡ large_number → take_word read start end list count more ≡ after_word (Stopped (TooLarge start end)) list more
+  pub word_large : read ≡ Err large_number → take_word read start end list count more ≡ after_word (Err (TooLarge start end)) list more
   unfolding take_word after_word
   word_large e = rw e
 
@@ -77,13 +76,13 @@ module _ (read : ReadDecimal) (start end : ℕ) (list : List ℕ) (count : ℕ) 
 
 -- no word is left
 pub taken_none : (t : TakenWords) (line list : List ℕ) (count : ℕ) (ws : List Word) → ws ≡ [] → take_words line list count ws ≡ t
-    → (Read count ≡ t.answer) × (list ≡ t.list)
+    → (Ok count ≡ t.answer) × (list ≡ t.list)
 unfolding take_words
 taken_none t line list count ws e f =
     let g : take_words line list count [] ≡ t = rw e at f in (ap (λ (x : TakenWords). x.answer) g, ap (λ (x : TakenWords). x.list) g)
 
 -- one was put, or stopped the reading
-pub taken_word : (t : TakenWords) (line list new : List ℕ) (count start end : ℕ) (all ws : List Word) (r : PutWord)
+pub taken_word : (t : TakenWords) (line list new : List ℕ) (count start end : ℕ) (all ws : List Word) (r : Result Unit NumbersError)
     → all ≡ word_at start end ∷ ws
     → take_words line list count all ≡ t
     → ((more : List ℕ → TakenWords)
@@ -94,13 +93,13 @@ taken_word t line list new count start end all ws r e f p =
     let g : take_words line list count (word_at start end ∷ ws) ≡ t = rw e at f in sym (p (λ (l : List ℕ). take_words line l (count + 1) ws))
     ∙ g
 
-pub stopped : (t : TakenWords) (r : PutWord) (answer : Numbers) (new : List ℕ) (more : List ℕ → TakenWords) → r ≡ Stopped answer
-    → after_word r new more ≡ t → (answer ≡ t.answer) × (new ≡ t.list)
+pub stopped : (t : TakenWords) (r : Result Unit NumbersError) (answer : NumbersError) (new : List ℕ) (more : List ℕ → TakenWords) → r ≡ Err answer
+    → after_word r new more ≡ t → (Err answer ≡ t.answer) × (new ≡ t.list)
 unfolding after_word
 stopped t r answer new more e f =
-    let g : after_word (Stopped answer) new more ≡ t = rw e at f in
+    let g : after_word (Err answer) new more ≡ t = rw e at f in
     (ap (λ (x : TakenWords). x.answer) g, ap (λ (x : TakenWords). x.list) g)
 
-pub went_on : (t : TakenWords) (r : PutWord) (new : List ℕ) (more : List ℕ → TakenWords) → r ≡ Put → after_word r new more ≡ t → more new ≡ t
+pub went_on : (t : TakenWords) (r : Result Unit NumbersError) (new : List ℕ) (more : List ℕ → TakenWords) → r ≡ Ok tt → after_word r new more ≡ t → more new ≡ t
 unfolding after_word
-went_on t r new more e f = let g : after_word Put new more ≡ t = rw e at f in g
+went_on t r new more e f = let g : after_word (Ok tt) new more ≡ t = rw e at f in g

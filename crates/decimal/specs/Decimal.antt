@@ -1,7 +1,7 @@
 -- Numbers in decimal, as ASCII text, and how a word is read as one.
-use Rattle.std.specs.Prelude.{ℕ, ◌+◌, ◌-◌, ◌*◌, ◌^◌, Bool, true, false, cond, ◌&&◌, List, [], ◌∷◌, leb, ltb}
-use Rattle.decimal.specs.declared.ReadDecimal.{ReadDecimal}
-use Rattle.decimal.specs.declared.ReadDecimal.TheVariants.{Number, NotANumber, TooLarge}
+use Rattle.std.specs.Prelude.{ℕ, ◌+◌, ◌-◌, ◌*◌, ◌^◌, Bool, true, false, cond, ◌&&◌, List, [], ◌∷◌, leb, ltb, Result, Ok, Err}
+use Rattle.decimal.specs.declared.DecimalError.{DecimalError}
+use Rattle.decimal.specs.declared.DecimalError.TheVariants.{NotANumber, TooLarge}
 
 -- A byte is a decimal digit: `0`, which is 48, to `9`, which is 57.
 abbrev pub is_digit : ℕ → Bool
@@ -27,9 +27,9 @@ abbrev pub value_of : List ℕ → ℕ
 value_of bs = value_from 0 bs
 
 -- A number, where 64 bits hold it.
-unfoldable pub in64_bits : ℕ → ReadDecimal
-in64_bits n = cond (ltb n (2 ^ 64)) (Number n) TooLarge
+unfoldable pub in64_bits : ℕ → Result ℕ DecimalError
+in64_bits n = cond (ltb n (2 ^ 64)) (Ok n) (Err TooLarge)
 
 -- Reading a word: what isn't a number is refused, and so is a number that 64 bits don't hold.
-unfoldable pub read_decimal : List ℕ → ReadDecimal
-read_decimal bs = cond (is_number bs) (in64_bits (value_of bs)) NotANumber
+unfoldable pub read_decimal : List ℕ → Result ℕ DecimalError
+read_decimal bs = cond (is_number bs) (in64_bits (value_of bs)) (Err NotANumber)

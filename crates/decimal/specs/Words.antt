@@ -1,13 +1,11 @@
 -- The words of a line, and what reading them as numbers into a list answers and leaves.
-use Rattle.std.specs.Prelude.{ℕ, ◌+◌, ◌-◌, ◌≤◌, ◌<◌, cond, List, [], ◌∷◌, ◌≡◌, leb, ltb, length, take, drop, set, get_or}
+use Rattle.std.specs.Prelude.{ℕ, ◌+◌, ◌-◌, ◌≤◌, ◌<◌, cond, List, [], ◌∷◌, ◌≡◌, leb, ltb, length, take, drop, set, get_or, Result, Ok, Err}
 use Rattle.std.proofs.Math.Option.{Option, none, some}
 use Rattle.decimal.specs.Decimal.{read_decimal}
-use Rattle.decimal.specs.declared.ReadDecimal.{ReadDecimal}
-use Rattle.decimal.specs.declared.ReadDecimal.TheVariants.{Number, NotANumber as no_number, TooLarge as large_number}
-use Rattle.decimal.specs.declared.words.Numbers.{Numbers}
-use Rattle.decimal.specs.declared.words.Numbers.TheVariants.{Read, TooMany, NotANumber, TooLarge}
-use Rattle.decimal.specs.declared.words.PutWord.{PutWord}
-use Rattle.decimal.specs.declared.words.PutWord.TheVariants.{Put, Stopped}
+use Rattle.decimal.specs.declared.DecimalError.{DecimalError}
+use Rattle.decimal.specs.declared.DecimalError.TheVariants.{NotANumber as no_number, TooLarge as large_number}
+use Rattle.decimal.specs.declared.words.NumbersError.{NumbersError}
+use Rattle.decimal.specs.declared.words.NumbersError.TheVariants.{TooMany, NotANumber, TooLarge}
 
 -- A word of a line: where it begins, and where it ends.
 pub record Word : Type 0 where
@@ -31,27 +29,27 @@ words_from line at = words_in none at (drop at line)
 
 -- What reading words answers, and the list afterwards.
 pub record TakenWords : Type 0 where
-  pub answer : Numbers
+  pub answer : Result ℕ NumbersError
   pub list : List ℕ
 
 -- A word goes to its place in a list, and those behind it follow; what isn't a number, is too large or finds no room ends it.
-unfoldable pub take_word : ReadDecimal → ℕ → ℕ → List ℕ → ℕ → (List ℕ → TakenWords) → TakenWords
-take_word (Number n) start end list count more =
-    cond (ltb count (length list)) (more (set list count n)) (record { answer = TooMany; list = list })
-take_word no_number start end list count more = record { answer = NotANumber start end; list = list }
-take_word large_number start end list count more = record { answer = TooLarge start end; list = list }
+unfoldable pub take_word : Result ℕ DecimalError → ℕ → ℕ → List ℕ → ℕ → (List ℕ → TakenWords) → TakenWords
+take_word (Ok n) start end list count more =
+    cond (ltb count (length list)) (more (set list count n)) (record { answer = Err TooMany; list = list })
+take_word (Err no_number) start end list count more = record { answer = Err (NotANumber start end); list = list }
+take_word (Err large_number) start end list count more = record { answer = Err (TooLarge start end); list = list }
 
 -- Words of a line go to a list, behind so many numbers.
 unfoldable pub take_words : List ℕ → List ℕ → ℕ → List Word → TakenWords
-take_words line list count [] = record { answer = Read count; list = list }
+take_words line list count [] = record { answer = Ok count; list = list }
 take_words line list count (w ∷ ws) =
     take_word (read_decimal (take (w.end - w.start) (drop w.start line))) w.start w.end list count
     (λ new. take_words line new (count + 1) ws)
 
 -- What comes of a word that was put, with the list then, or of one that ended the reading.
-unfoldable pub after_word : PutWord → List ℕ → (List ℕ → TakenWords) → TakenWords
-after_word Put list more = more list
-after_word (Stopped answer) list more = record { answer = answer; list = list }
+unfoldable pub after_word : Result Unit NumbersError → List ℕ → (List ℕ → TakenWords) → TakenWords
+after_word (Ok _) list more = more list
+after_word (Err why) list more = record { answer = Err why; list = list }
 
 -- An index is where the next word of a line begins from another index on, or the line's end.
 pub record Skips (line : List ℕ) (from r : ℕ) : Type 0 where

@@ -1,85 +1,57 @@
-// Numbers in decimal, read from text. They are printed by the toolchain's `io`, whose contract says which digits; a number that was printed
-// so is read back (`proofs/LawsDecimal`).
+// Numbers in decimal, read from text. A number that the library displays is read back, and so is one that the toolchain's `io` prints
+// (`proofs/LawsDecimal`).
 #![tactic(auto)]
 
 mod words;
 
 ghost use Rattle.std.specs.Prelude.{◌≡◌, ◌-◌};
-ghost use Rattle.decimal.specs.Decimal.{is_digit, all_digits, value_of, in64_bits, read_decimal};
+ghost use Rattle.decimal.specs.Decimal.{all_digits, value_of, in64_bits, read_decimal};
 
-pub use words::{Numbers, numbers_into, skip_spaces, word_end};
+pub use words::{NumbersError, numbers_into, skip_spaces, word_end};
 
-// What reading a word answers.
-#[derive(Clone, Copy)]
-pub enum ReadDecimal {
-    // The word is this number.
-    Number(u64),
+// Why a word isn't read as a number.
+#[derive(Clone, Copy, Debug, PartialEq, Eq)]
+pub enum DecimalError {
     // The word is empty, or has a byte that is no digit.
     NotANumber,
     // The word is a number of more than 64 bits.
     TooLarge,
 }
 
-// A byte is a decimal digit.
-fn is_digit(b: u8) -> bool
-    ensures { result ≡ is_digit b }
-{
-    if b < b'0' {
-        return false;
-    }
-    b <= b'9'
-}
-
 // What a digit is worth.
 fn digit_of(b: u8) -> u64
     ensures { result ≡ b - 48 }
 {
-    if b < b'0' {
-        return 0;
-    }
-    (b - b'0') as u64
+    u64::from(b.saturating_sub(b'0'))
 }
 
 // Each byte of a word is a digit.
 fn all_digits(word: &[u8]) -> bool
     ensures { result ≡ all_digits word.now }
 {
-    let mut i: usize = 0;
-    while i < word.len() {
-        if !is_digit(word[i]) {
-            return false;
-        }
-        i += 1;
-    }
-    true
+    word.iter().all(|b| b.is_ascii_digit())
 }
 
 // The value of the digits of a word, where 64 bits hold it.
-fn value_of(word: &[u8]) -> ReadDecimal
+fn value_of(word: &[u8]) -> Result<u64, DecimalError>
     ensures { result ≡ in64_bits (value_of word.now) }
 {
     let mut value: u64 = 0;
-    let mut i: usize = 0;
-    while i < word.len() {
-        let digit = digit_of(word[i]);
-        if (u64::MAX - digit) / 10 < value {
-            return ReadDecimal::TooLarge;
-        }
-        value = value * 10 + digit;
-        i += 1;
+    for b in word {
+        let digit = digit_of(*b);
+        let tens = value.checked_mul(10).ok_or(DecimalError::TooLarge)?;
+        value = tens.checked_add(digit).ok_or(DecimalError::TooLarge)?;
     }
-    ReadDecimal::Number(value)
+    Ok(value)
 }
 
 // Reads a word, all of it, as a number in decimal.
-pub fn read_decimal(word: &[u8]) -> ReadDecimal
+// The library's `parse` takes a sign before the digits, too.
+pub fn read_decimal(word: &[u8]) -> Result<u64, DecimalError>
     ensures { result ≡ read_decimal word.now }
 {
-    if word.len() == 0 {
-        return ReadDecimal::NotANumber;
-    }
-    if !all_digits(word) {
-        return ReadDecimal::NotANumber;
+    if word.is_empty() || !all_digits(word) {
+        return Err(DecimalError::NotANumber);
     }
     value_of(word)
 }

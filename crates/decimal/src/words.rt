@@ -3,13 +3,11 @@ ghost use Rattle.std.specs.Prelude.{◌≡◌, List, ℕ, ◌≤◌, ◌<◌, le
 ghost use Rattle.decimal.specs.Decimal.{read_decimal};
 ghost use Rattle.decimal.specs.Words.{TakenWords, words_from, take_word, take_words, after_word, Skips, Ends};
 
-use crate::{ReadDecimal, read_decimal};
+use crate::{DecimalError, read_decimal};
 
-// What reading the words of a line answers.
-#[derive(Clone, Copy)]
-pub enum Numbers {
-    // So many numbers, which the lent list has at its start now.
-    Read(usize),
+// Why the words of a line aren't read as numbers.
+#[derive(Clone, Copy, Debug, PartialEq, Eq)]
+pub enum NumbersError {
     // More numbers than the list has room for.
     TooMany,
     // A word that isn't a number stands here.
@@ -18,26 +16,17 @@ pub enum Numbers {
     TooLarge { start: usize, end: usize },
 }
 
-// What comes of one word: its number was put into the list, or the reading ends.
-#[derive(Clone, Copy)]
-enum PutWord {
-    Put,
-    Stopped(Numbers),
-}
-
 // The first index, from the given one on, where a word begins, or the line's end.
 pub fn skip_spaces(line: &[u8], from: usize) -> usize
     requires { from ≤ length line.now }
     ensures { Skips line.now from result }
 {
-    let mut i = from;
-    while i < line.len() {
+    for i in from..line.len() {
         if b' ' < line[i] {
             return i;
         }
-        i += 1;
     }
-    i
+    line.len()
 }
 
 // The end of the word that begins at an index.
@@ -45,39 +34,40 @@ pub fn word_end(line: &[u8], start: usize) -> usize
     requires { start < length line.now }
     ensures { Ends line.now start result }
 {
-    let mut i = start + 1;
-    while i < line.len() {
+    for i in start + 1..line.len() {
         if line[i] <= b' ' {
             return i;
         }
-        i += 1;
     }
-    i
+    line.len()
 }
 
 // Reads the word of a line that begins and ends at two indices, and puts its number behind so many in a list.
-fn put_word(word: &[u8], start: usize, end: usize, list: &mut [u64], count: usize) -> PutWord
+fn put_word(
+    word: &[u8],
+    start: usize,
+    end: usize,
+    list: &mut [u64],
+    count: usize,
+) -> Result<(), NumbersError>
     ensures by_index { (more : List ℕ → TakenWords)
         → take_word (read_decimal word.now) start end list.old count more ≡ after_word result list.new more }
     ensures list_len_unchanged { length list.new ≡ length list.old }
 {
-    let read = read_decimal(word);
-    match read {
-        ReadDecimal::Number(n) => {
-            if list.len() <= count {
-                return PutWord::Stopped(Numbers::TooMany);
-            }
+    match read_decimal(word) {
+        Ok(n) if count < list.len() => {
             list[count] = n;
-            PutWord::Put
+            Ok(())
         }
-        ReadDecimal::NotANumber => PutWord::Stopped(Numbers::NotANumber { start, end }),
-        ReadDecimal::TooLarge => PutWord::Stopped(Numbers::TooLarge { start, end }),
+        Ok(_) => Err(NumbersError::TooMany),
+        Err(DecimalError::NotANumber) => Err(NumbersError::NotANumber { start, end }),
+        Err(DecimalError::TooLarge) => Err(NumbersError::TooLarge { start, end }),
     }
 }
 
-// Reads the words of a line from an index on as numbers, into the start of a lent list. The numbers before a word that ends the reading are
-// in the list then, too.
-pub fn numbers_into(line: &[u8], from: usize, list: &mut [u64]) -> Numbers
+// Reads the words of a line from an index on as numbers, into the start of a lent list, and tells how many. The numbers before a word that
+// ends the reading are in the list then, too.
+pub fn numbers_into(line: &[u8], from: usize, list: &mut [u64]) -> Result<usize, NumbersError>
     requires { from ≤ length line.now }
     ensures answer { result ≡ (take_words line.now list.old 0 (words_from line.now from)).answer }
     ensures list { list.new
@@ -85,18 +75,16 @@ pub fn numbers_into(line: &[u8], from: usize, list: &mut [u64]) -> Numbers
 {
     let mut at = from;
     let mut count: usize = 0;
+    // The step isn't one: each turn goes on by a word and the spaces before it, so no range counts it.
     while at < line.len() {
         let start = skip_spaces(line, at);
         if start == line.len() {
-            return Numbers::Read(count);
+            return Ok(count);
         }
         let end = word_end(line, start);
-        let put = put_word(&line[start..end], start, end, list, count);
-        if let PutWord::Stopped(answer) = put {
-            return answer;
-        }
+        put_word(&line[start..end], start, end, list, count)?;
         count += 1;
         at = end;
     }
-    Numbers::Read(count)
+    Ok(count)
 }

@@ -1,2 +1,3 @@
 pub mod LawsAnswer
 pub mod LawsOut
+pub mod LawsResult

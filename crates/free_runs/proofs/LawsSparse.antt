@@ -1,5 +1,6 @@
 -- Pages kept of a window: those below an end, one more, all of a list, and the least of them from one on. Assumes nothing.
-use Rattle.std.proofs.Common.{◌≡◌, ℕ, zero, suc, ◌+◌, ◌*◌, ◌/◌, ◌%◌, ◌^◌, ◌<◌, ◌≤◌, min, Bool, false, cond, ◌||◌, eqb, List, [], ◌∷◌, length, get_or, set, sym, refl, ap, ◌∙◌, subst, ⊎_elim, arith, length-set, get_or-set_other, get_or-set_same, le-ltb, lt-ltb, eq-eqb, ne_eqb}
+use Rattle.std.proofs.Common.{◌≡◌, ℕ, zero, suc, ◌+◌, ◌*◌, ◌/◌, ◌%◌, ◌^◌, ◌<◌, ◌≤◌, min, Bool, false, cond, ◌||◌, eqb, List, [], ◌∷◌, length, get_or, take, set, sym, refl, ap, ◌∙◌, subst, ⊎_elim, arith, length-set, get_or-set_other, get_or-set_same, le-ltb, lt-ltb, eq-eqb, ne_eqb}
+use Rattle.std.proofs.lemmas.List.{get_or-take, length-take-le}
 use Rattle.buffer.proofs.LawsOrder.{lt_or_ge}
 use Rattle.free_runs.specs.Runs.{is_in}
 use Rattle.free_runs.specs.Steps.{Sought, ToGoOn}
@@ -176,18 +177,31 @@ module _ (os : List ℕ) (from end : ℕ) where
   unfolding is_in
   collect_done kept count limit g =
       record {
-        long = g.long;
         room = g.room;
         low = g.low;
         high = g.high;
         tells = λ p l m. sym (none_or (holds kept count p)) ∙ g.tells p l m;
       }
 
--- They are those of the window that ends where it does.
+-- The places behind those counted don't matter.
+holds_front : (kept : List ℕ) (m n p : ℕ) → n ≤ m → holds (take m kept) n p ≡ holds kept n p
+unfolding holds
+holds_front kept m zero p h = refl
+holds_front kept m (suc n) p h =
+    ap (λ (x : ℕ). eqb x p || holds (take m kept) n p) (get_or-take m kept n 0 (omega arith))
+    ∙ ap (λ (b : Bool). eqb (get_or kept n 0) p || b) (holds_front kept m n p (omega arith))
+
+-- They are those of the window that ends where it does, and the places counted tell them.
 pub collects_own : (os : List ℕ) (from end : ℕ) (kept : List ℕ) (count limit : ℕ) → Collects os from end kept count limit
-    → Collects os from limit kept count limit
-collects_own os from end kept count limit c =
-    record { long = c.long; room = c.room; low = c.low; high = omega arith; tells = c.tells }
+    → count ≤ length kept → Collects os from limit (take count kept) (length (take count kept)) limit
+collects_own os from end kept count limit c h =
+    rw (length-take-le count kept h)
+    (record {
+      room = c.room;
+      low = c.low;
+      high = omega arith;
+      tells = λ p l m. holds_front kept count count p (omega arith) ∙ c.tells p l m;
+    })
 
 -- ---- the least from a page on
 

@@ -1,5 +1,5 @@
 -- The list of freed pages, walked: what its test tells, and that it holds no page twice. Assumes nothing.
-use Rattle.std.proofs.Common.{◌≡◌, ℕ, zero, suc, ◌-◌, ◌<◌, ◌≤◌, true, false, eqb, List, [], ◌∷◌, sym, refl, ap, subst, ⊎_elim, true≢false, arith, eqb-true}
+use Rattle.std.proofs.Common.{◌≡◌, ℕ, zero, suc, ◌+◌, ◌-◌, ◌<◌, ◌≤◌, true, false, eqb, List, [], ◌∷◌, sym, refl, ap, subst, ⊎_elim, true≢false, arith, eqb-true}
 use Rattle.scripthash_free.specs.FreeList.{next_of, is_block}
 use Rattle.scripthash_free.proofs.LawsBlock.{both, not_holds, block_stands, Standing}
 use Rattle.free_runs.specs.Runs.{is_in}
@@ -40,6 +40,14 @@ module _ (mark : ℕ) (body : List ℕ) where
   unfolding walked
   walked_step zero o h = absurd (omega arith)
   walked_step (suc k) o h = let z : suc k - 1 ≡ k = omega arith in rw z
+
+  -- The same where some pages of a list were walked, and one more is.
+  pub ends_next : (k n o : ℕ) → n < k → is_block 8 o mark ≡ true
+      → pages_end mark (k - n) body o ≡ pages_end mark (k - (n + 1)) body (next_of body o)
+  ends_next k n o h e = let z : k - (n + 1) ≡ k - n - 1 = omega arith in rw z (ends_step (k - n) o (omega arith) e)
+
+  pub walked_next : (k n o : ℕ) → n < k → walked (k - n) body o ≡ o ∷ walked (k - (n + 1)) body (next_of body o)
+  walked_next k n o h = let z : k - (n + 1) ≡ k - n - 1 = omega arith in rw z (walked_step (k - n) o (omega arith))
 
   -- A list that ends has one length.
   pub ends_once : (j k o : ℕ) → pages_end mark j body o ≡ true → pages_end mark k body o ≡ true → j ≡ k

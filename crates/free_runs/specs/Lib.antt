@@ -1,5 +1,6 @@
 pub mod Runs
 pub mod PageList
+pub mod Freed
 pub mod Steps
 pub mod Sparse
 pub mod Overlaid

@@ -2,21 +2,18 @@
 use Rattle.std.specs.Prelude.{◌≡◌, ℕ, zero, suc, ◌*◌, ◌<◌, ◌≤◌, Bool, true, false, cond, ◌||◌, List, length, ◌==◌, nat_lt, slice_index}
 use Rattle.scripthash_layout.specs.Sizes.{page_size}
 use Rattle.free_runs.specs.Runs.{is_in}
-use Rattle.free_runs.specs.Steps.{ToScan, JudgedList}
+use Rattle.free_runs.specs.declared.list.FreedPages.{FreedPages}
+use Rattle.free_runs.specs.Freed.{passes}
 
 -- A page is one of the first so many kept.
 unfoldable pub holds : List ℕ → ℕ → ℕ → Bool
 holds kept zero page = false
 holds kept (suc n) page = slice_index kept n == page || holds kept n page
 
--- Words that keep pages: 4,096 places, of which so many are taken.
-pub record KeptPlaces (kept : List ℕ) (count : ℕ) : Type 0 where
-  pub long : length kept ≡ 4096
+-- What keeping pages of a window asks: that no more of the 4,096 places are taken than there are, and an end that isn't before its first
+-- page.
+pub record ToKeep (count from end : ℕ) : Type 0 where
   pub room : count ≤ 4096
-
--- What keeping pages of a window asks: the places, and an end that isn't before its first page.
-pub record ToKeep (kept : List ℕ) (count from end : ℕ) : Type 0 where
-  pub places : KeptPlaces kept count
   pub forward : from ≤ end
 
 -- Of so many pages, those below an end are kept.
@@ -45,24 +42,17 @@ pub record KeepsOne (from end page : ℕ) (before : List ℕ) (count : ℕ) (aft
   pub high : limit ≤ end
   pub tells : (p : ℕ) → from ≤ p → p < limit → holds after left p ≡ (page == p) || holds before count p
 
--- What keeping the pages of a free list asks: that it was judged, the places, and an end that isn't before the window's first page.
-pub record ToCollect (mark count : ℕ) (body : List ℕ) (head : ℕ) (kept : List ℕ) (from end : ℕ) : Type 0 where
-  pub judged : JudgedList mark count body head
-  pub long : length kept ≡ 4096
+-- What keeping the pages of a free list asks: that it was judged, and an end that isn't before the window's first page.
+pub record ToCollect (list : FreedPages) (from end : ℕ) : Type 0 where
+  pub judged : passes list ≡ true
   pub forward : from ≤ end
 
 -- The pages kept are those of a window that stand in a list.
 pub record Collects (os : List ℕ) (from end : ℕ) (kept : List ℕ) (count limit : ℕ) : Type 0 where
-  pub long : length kept ≡ 4096
   pub room : count ≤ 4096
   pub low : from ≤ limit
   pub high : limit ≤ end
   pub tells : (p : ℕ) → from ≤ p → p < limit → holds kept count p ≡ is_in (p * page_size) os
-
--- What looking for the least page kept from one on asks: at most 4,096 are kept, and an end that isn't before that page.
-pub record ToFindLeast (count page end : ℕ) : Type 0 where
-  pub room : count ≤ 4096
-  pub forward : page ≤ end
 
 -- The least page kept from one on and below an end, or the end.
 pub record LeastFrom (kept : List ℕ) (count page end least : ℕ) : Type 0 where
@@ -70,11 +60,6 @@ pub record LeastFrom (kept : List ℕ) (count page end least : ℕ) : Type 0 whe
   pub high : least ≤ end
   pub held : least < end → holds kept count least ≡ true
   pub none_below : (p : ℕ) → page ≤ p → p < least → holds kept count p ≡ false
-
--- What a search over pages kept asks: at most 4,096 of them.
-pub record ToScanKept (count from end start pages : ℕ) : Type 0 where
-  pub to_scan : ToScan from end start pages
-  pub room : count ≤ 4096
 
 -- The first page from which a stretch can begin, where the pages from one up to a next one aren't freed.
 unfoldable pub begins_from : ℕ → ℕ → ℕ → ℕ

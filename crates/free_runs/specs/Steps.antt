@@ -1,16 +1,12 @@
 -- What the search and the taking out promise step by step: no answer of a public function is defined here.
-use Rattle.std.specs.Prelude.{◌≡◌, ℕ, ◌+◌, ◌*◌, ◌/◌, ◌%◌, ◌^◌, ◌<◌, ◌≤◌, Bool, true, false, ◌||◌, List, length, ◌==◌, ◌≢◌, bit_or, slice_index, slice_set}
+use Rattle.std.specs.Prelude.{◌≡◌, ℕ, ◌+◌, ◌*◌, ◌/◌, ◌%◌, ◌^◌, ◌<◌, ◌≤◌, true, false, ◌||◌, List, length, ◌==◌, ◌≢◌, bit_or, slice_index, slice_set, Option, IfSome, is_some}
 use Rattle.scripthash_layout.specs.Sizes.{page_size}
 use Rattle.scripthash_free.specs.FreeList.{next_of}
 use Rattle.free_runs.specs.Runs.{is_in, in_run, left_of}
-use Rattle.free_runs.specs.PageList.{walked, pages_end, ToSeek}
-
--- ---- the list
-
--- A free list that was judged: the mark lies in the body, and the list passes.
-pub record JudgedList (mark count : ℕ) (body : List ℕ) (head : ℕ) : Type 0 where
-  pub within : mark ≤ length body
-  pub passes : pages_end mark count body head ≡ true
+use Rattle.free_runs.specs.PageList.{walked, pages_end}
+use Rattle.free_runs.specs.declared.list.FreedPages.{FreedPages}
+use Rattle.free_runs.specs.Freed.{pages_of, passes}
+use Rattle.free_runs.specs.declared.search.Looked.{Looked}
 
 -- ---- flags
 
@@ -50,23 +46,12 @@ pub record Marks (mark : ℕ) (os : List ℕ) (from : ℕ) (before after : List 
   pub limit : next ≤ mark / page_size
   pub none_between : (p : ℕ) → from + window_pages ≤ p → p < next → is_in (p * page_size) os ≡ false
 
--- What flagging the pages of a free list asks: the words of a window, and a mark in the body.
-pub record ToFlag (mark : ℕ) (body words : List ℕ) : Type 0 where
-  pub long : length words ≡ 4096
-  pub within : mark ≤ length body
-
--- A free list was walked and, if it passes, its pages in the window from a page on are flagged.
-pub record FlagsList (mark count : ℕ) (body : List ℕ) (head from : ℕ) (before after : List ℕ) (passes : Bool) (next : ℕ) : Type 0 where
-  pub passed : passes ≡ pages_end mark count body head
-  pub marks : pages_end mark count body head ≡ true → Marks mark (walked count body head) from before after next
-  pub long : length after ≡ 4096
+-- A free list was walked and, if it passes, its pages in the window from a page on are flagged, and a next page is told.
+pub record FlagsList (list : FreedPages) (from : ℕ) (before after : List ℕ) (told : Option ℕ) : Type 0 where
+  pub passed : is_some told ≡ passes list
+  pub marks : IfSome told (λ next. Marks list.mark (pages_of list) from before after next)
 
 -- ---- the search
-
--- What the search for a run asks window by window: the words of a window besides.
-pub record ToSearch (mark : ℕ) (body words : List ℕ) (pages : ℕ) : Type 0 where
-  pub to_seek : ToSeek mark body pages
-  pub long : length words ≡ 4096
 
 -- What a search asks that goes on from a page: a page or more are wanted, and more than lie before it from where a stretch can begin.
 pub record ToGoOn (from start pages : ℕ) : Type 0 where
@@ -85,21 +70,20 @@ pub record ToScanFlags (from end start pages : ℕ) : Type 0 where
   pub to_scan : ToScan from end start pages
   pub window : end ≤ from + window_pages
 
--- What the look at a window asks: what flags and the search ask, and that it begins below the mark.
-pub record ToLook (mark : ℕ) (body words : List ℕ) (from start pages : ℕ) : Type 0 where
-  pub to_flag : ToFlag mark body words
+-- What the look at a window asks: what the search asks, and that it begins below the mark.
+pub record ToLook (list : FreedPages) (from start pages : ℕ) : Type 0 where
   pub to_go_on : ToGoOn from start pages
-  pub below : from < mark / page_size
+  pub below : from < list.mark / page_size
 
 -- What it asks of the list: behind the first window, that it was judged.
-pub record ToLookOn (mark count : ℕ) (body : List ℕ) (head : ℕ) (words : List ℕ) (from start pages : ℕ) : Type 0 where
-  pub to_look : ToLook mark body words from start pages
-  pub judged : 0 < from → pages_end mark count body head ≡ true
+pub record ToLookOn (list : FreedPages) (from start pages : ℕ) : Type 0 where
+  pub to_look : ToLook list from start pages
+  pub judged : 0 < from → passes list ≡ true
 
 -- What it asks of the list where pages are kept: that it was judged.
-pub record ToLookFar (mark count : ℕ) (body : List ℕ) (head : ℕ) (words : List ℕ) (from start pages : ℕ) : Type 0 where
-  pub to_look : ToLook mark body words from start pages
-  pub judged : pages_end mark count body head ≡ true
+pub record ToLookFar (list : FreedPages) (from start pages : ℕ) : Type 0 where
+  pub to_look : ToLook list from start pages
+  pub judged : passes list ≡ true
 
 -- The search for a stretch has come to the page `end`, with `start` the first page from which one can still begin: all pages from it on
 -- are freed, up to the end or so many, and no stretch begins below it.
@@ -117,12 +101,10 @@ pub record Looks (mark : ℕ) (os : List ℕ) (from end start pages first next :
   pub limit : next ≤ mark / page_size
   pub none_between : (p : ℕ) → end ≤ p → p < next → is_in (p * page_size) os ≡ false
 
--- What the look at a window of a free list gives: whether the list passes and, if it does, how far the search has come.
-pub record LooksAt (mark count : ℕ) (body : List ℕ) (head from start pages : ℕ) (passes : Bool) (end first next : ℕ) (words : List ℕ)
-    : Type 0 where
-  pub passed : passes ≡ pages_end mark count body head
-  pub looks : pages_end mark count body head ≡ true → Looks mark (walked count body head) from end start pages first next
-  pub long : length words ≡ 4096
+-- What the look at a window of a free list gives: nothing if the list doesn't pass, and else how far the search has come.
+pub record LooksAt (list : FreedPages) (from start pages : ℕ) (looked : Option Looked) : Type 0 where
+  pub passed : is_some looked ≡ passes list
+  pub looks : IfSome looked (λ w. Looks list.mark (pages_of list) from w.end start pages w.start w.next)
 
 -- ---- taking out
 

@@ -2,10 +2,11 @@
 #![tactic(auto)]
 
 mod flags;
+mod list;
 mod overlaid;
 mod search;
 mod sparse;
 mod unlinking;
 
-pub use search::{FoundRun, seek_run};
+pub use search::seek_run;
 pub use unlinking::unlink;

@@ -2,9 +2,12 @@
 ghost use Rattle.std.specs.Prelude.{◌≡◌, ◌≤◌, true, length};
 ghost use Rattle.free_runs.specs.Runs.{left_of};
 ghost use Rattle.free_runs.specs.PageList.{walked, pages_end, top_of, relinked};
-ghost use Rattle.free_runs.specs.Steps.{JudgedList, PassedOver, ToRelink};
+ghost use Rattle.free_runs.specs.Freed.{passes};
+ghost use Rattle.free_runs.specs.Steps.{PassedOver, ToRelink};
 ghost use Rattle.buffer.specs.Bytes.{overwrite};
 ghost use Rattle.buffer.specs.LittleEndian.{bytes_of};
+
+use crate::list::FreedPages;
 
 // A place in a free list: an offset, 0 at the end, and how many pages the list has from there on.
 #[derive(Clone, Copy)]
@@ -13,24 +16,23 @@ struct Place {
     left: u64,
 }
 
-// The first place of a free list, from one on, whose page lies outside a run.
-fn pass_over(body: &[u8], mark: u64, at: u64, left: u64, from: u64, end: u64) -> Place
-    requires { JudgedList mark left body.now at }
-    ensures { PassedOver mark body.now from end at left result.at result.left }
+// The first place of a free list that was judged whose page lies outside a run.
+fn pass_over(list: &FreedPages, from: u64, end: u64) -> Place
+    requires { passes list.now ≡ true }
+    ensures { PassedOver
+        list.now.mark list.now.body.now from end list.now.head list.now.count result.at result.left }
 {
-    let mut at = at;
-    let mut left = left;
-    while left > 0 {
-        if at < from {
-            return Place { at, left };
+    let mut at = list.head;
+    for passed in 0..list.count {
+        if at < from || at >= end {
+            return Place {
+                at,
+                left: list.count - passed,
+            };
         }
-        if at >= end {
-            return Place { at, left };
-        }
-        at = buffer::get_u64(body, at as usize);
-        left -= 1;
+        at = buffer::get_u64(list.body, at as usize);
     }
-    Place { at, left }
+    Place { at, left: 0 }
 }
 
 // Links a freed page to another, where its link is another one so far.
@@ -49,13 +51,26 @@ pub fn unlink(body: &mut [u8], mark: u64, head: u64, count: u64, from: u64, end:
     ensures top { result ≡ top_of (left_of from end (walked count body.old head)) }
     ensures links { body.new ≡ relinked (left_of from end (walked count body.old head)) body.old }
 {
-    let first = pass_over(body, mark, head, count, from, end);
+    let list = FreedPages {
+        body: &*body,
+        mark,
+        head,
+        count,
+    };
+    let first = pass_over(&list, from, end);
     let top = first.at;
     let mut at = first.at;
     let mut left = first.left;
+    // The step isn't one: each turn goes on behind the pages of the run that it passed over.
     while left > 0 {
         let link = buffer::get_u64(body, at as usize);
-        let over = pass_over(body, mark, link, left - 1, from, end);
+        let rest = FreedPages {
+            body: &*body,
+            mark,
+            head: link,
+            count: left - 1,
+        };
+        let over = pass_over(&rest, from, end);
         let to = over.at;
         relink(body, at, link, to);
         at = to;

@@ -1,211 +1,123 @@
 // The text of answers that programs replay: lines of fields in hexadecimal, divided by bars, and what their buffers and lists have to hold.
 #![tactic(auto)]
 
-ghost use Rattle.std.specs.Prelude.{◌+◌, ◌<◌, ◌≤◌, length};
+ghost use Rattle.std.specs.Prelude.{◌<◌, ◌≤◌, length};
+
+use std::io::ErrorKind;
+use std::rt::Files;
+use std::{fs, io};
+use text::Pieces;
+
+// The text of a file; nothing where there is no such file.
+pub fn read_file<R: Files + AllocGlobal>(rt: &R, name: &str) -> io::Result<Option<Vec<u8>>> {
+    match fs::read(rt, name) {
+        Ok(text) => Ok(Some(text)),
+        Err(e) if e.kind() == ErrorKind::NotFound => Ok(None),
+        Err(e) => Err(e),
+    }
+}
+
+// The title on a line that has '=' and a title, in place of fields. The title of an empty line is empty.
+pub fn title(line: &[u8]) -> Option<&[u8]> {
+    match line {
+        [] => Some(line),
+        [b'=', title @ ..] => Some(title),
+        _ => None,
+    }
+}
 
 // The bytes of s from one index to another; none where that leaves s.
 pub fn part(s: &[u8], from: usize, to: usize) -> &[u8] {
-    if to <= s.len() {
-        if from <= to {
-            return &s[from..to];
-        }
-    }
-    &s[0..0]
+    s.get(from..to).unwrap_or(&[])
 }
 
-// The index of the first b in s, or s's length.
-pub fn find(s: &[u8], b: u8) -> usize
-    ensures { result ≤ length s.now }
-{
-    let mut i: usize = 0;
-    while i < s.len() {
-        if s[i] == b {
-            return i;
-        }
-        i += 1;
-    }
-    i
-}
-
-// The bytes of s before the first b in it; all where there is none.
-pub fn before(s: &[u8], b: u8) -> &[u8] {
-    part(s, 0, find(s, b))
-}
-
-// The bytes of s after the first b in it; none where there is none.
-pub fn after(s: &[u8], b: u8) -> &[u8] {
-    let at = find(s, b);
-    if at < s.len() {
-        return part(s, at + 1, s.len());
-    }
-    part(s, 0, 0)
-}
-
-// The bytes of s from an index on, before the first b there.
-pub fn until(s: &[u8], at: usize, b: u8) -> &[u8] {
-    before(part(s, at, s.len()), b)
-}
-
-// The index in s behind so many bars, or s's length.
-fn behind_bars(s: &[u8], bars: usize) -> usize {
-    let mut left = bars;
-    let mut i: usize = 0;
-    while i < s.len() {
-        if left == 0 {
-            return i;
-        }
-        if s[i] == b'|' {
-            left -= 1;
-        }
-        i += 1;
-    }
-    i
-}
-
-// The field of a line that stands behind so many bars.
-pub fn field(s: &[u8], bars: usize) -> &[u8] {
-    until(s, behind_bars(s, bars), b'|')
+// The field of a line that stands behind so many bars; none where it has fewer.
+pub fn field(line: &[u8], bars: usize) -> &[u8] {
+    line.split(|b| *b == b'|').nth(bars).unwrap_or(&[])
 }
 
 // The value of a hexadecimal digit, and 0 of another byte.
+// The library's `to_digit` takes capital letters for digits, too.
 fn digit(b: u8) -> u8
     ensures { result < 16 }
 {
-    if b'0' <= b {
-        if b <= b'9' {
-            return b - b'0';
-        }
+    match b {
+        b'0'..=b'9' => b - b'0',
+        b'a'..=b'f' => b - b'a' + 10,
+        _ => 0,
     }
-    if b'a' <= b {
-        if b <= b'f' {
-            return b - b'a' + 10;
-        }
-    }
-    0
 }
 
-// The byte that two hexadecimal digits at an index write.
-fn byte_at(s: &[u8], at: usize) -> u8
-    requires { at + 2 ≤ length s.now }
-{
-    digit(s[at]) * 16 + digit(s[at + 1])
+// The byte that two hexadecimal digits write.
+fn byte(high: u8, low: u8) -> u8 {
+    digit(high) * 16 + digit(low)
 }
 
-// The number that hexadecimal digits write, of which the last 16 count.
+// The number that hexadecimal digits write, of which the last 16 count; 0 where there are none.
+// The library's `from_str_radix` takes a sign and capital letters, and refuses what isn't a number.
 pub fn hex(s: &[u8]) -> u64 {
-    let mut value: u64 = 0;
-    let mut i: usize = 0;
-    while i < s.len() {
-        value = value % 0x1000_0000_0000_0000 * 16 + digit(s[i]) as u64;
-        i += 1;
-    }
-    value
+    s.iter().fold(
+        0,
+        |value: u64, b| value % 0x1000_0000_0000_0000 * 16 + u64::from(digit(*b)),
+    )
 }
 
-// Puts a number and so many more, each a step above the one before, into out from an index on, as far as it reaches. Tells the index after
-// them.
-fn put_numbers(out: &mut [u64], from: usize, first: u64, step: u64, more: u64) -> usize {
+// Puts a number and so many more, each a step above the one before, to the start of out, as far as it reaches. Tells how many were put.
+fn put_numbers(out: &mut [u64], first: u64, step: u64, more: u64) -> usize
+    ensures { result ≤ length out.old }
+{
+    let count = out.len().min((more as usize).saturating_add(1));
     let mut n = first;
-    let mut left = more;
-    let mut k = from;
-    while k < out.len() {
-        out[k] = n;
-        k += 1;
-        if left == 0 {
-            return k;
-        }
-        left -= 1;
-        n = std::num::wrapping_add_u64(n, step);
+    for place in out[..count].iter_mut() {
+        *place = n;
+        n = n.wrapping_add(step);
     }
-    k
+    count
 }
 
-// Puts the numbers of an item, which is a number or a number, a step and how many more, divided by colons.
-fn put_item(s: &[u8], out: &mut [u64], from: usize) -> usize {
-    let run = after(s, b':');
-    let first = hex(before(s, b':'));
-    let step = hex(before(run, b':'));
-    put_numbers(out, from, first, step, hex(after(run, b':')))
+// Puts the numbers of an item, which is a number or a number, a step and how many more, divided by colons. Tells how many were put.
+fn put_item(item: &[u8], out: &mut [u64]) -> usize
+    ensures { result ≤ length out.old }
+{
+    let mut parts = item.splitn(3, |b| *b == b':');
+    let first = parts.next().map_or(0, hex);
+    let step = parts.next().map_or(0, hex);
+    let more = parts.next().map_or(0, hex);
+    put_numbers(out, first, step, more)
 }
 
 // Puts the numbers of a field, a space after each item, to the start of out, and tells how many.
-pub fn numbers(s: &[u8], out: &mut [u64]) -> usize {
-    let mut at: usize = 0;
-    let mut k: usize = 0;
-    while at < s.len() {
-        let item = until(s, at, b' ');
-        k = put_item(item, out, k);
-        if s.len() - at <= item.len() {
-            return k;
-        }
-        at += item.len() + 1;
+pub fn numbers(s: &[u8], out: &mut [u64]) -> usize
+    ensures { result ≤ length out.old }
+{
+    let mut count = 0;
+    for item in Pieces::new(s, b' ') {
+        count += put_item(item, &mut out[count..]);
     }
-    k
+    count
 }
 
-// Puts a byte and so many more of it into out from an index on, as far as it reaches. Tells the index after them.
-fn put_bytes(out: &mut [u8], from: usize, more: u8, b: u8) -> usize {
-    let mut left = more;
-    let mut k = from;
-    while k < out.len() {
-        out[k] = b;
-        k += 1;
-        if left == 0 {
-            return k;
-        }
-        left -= 1;
-    }
-    k
+// The first numbers of a field, and 0 in place of those that it doesn't have.
+pub fn first_numbers<const N: usize>(s: &[u8]) -> [u64; N] {
+    let mut first = [0u64; N];
+    numbers(s, &mut first);
+    first
 }
 
 // Puts the bytes of a field to the start of out, by runs of four digits: how often a byte stands, less one, and the byte.
 pub fn bytes(s: &[u8], out: &mut [u8]) {
-    let mut at: usize = 0;
-    let mut k: usize = 0;
-    while 4 <= s.len() - at {
-        k = put_bytes(out, k, byte_at(s, at), byte_at(s, at + 2));
-        at += 4;
+    let mut count = 0;
+    let (runs, _) = s.as_chunks::<4>();
+    for [a, b, c, d] in runs {
+        let rest = &mut out[count..];
+        let run = rest.len().min(1 + usize::from(byte(*a, *b)));
+        rest[..run].fill(byte(*c, *d));
+        count += run;
     }
 }
 
 // Copies numbers to the start of a list, as far as it reaches.
 pub fn put(from: &[u64], to: &mut [u64]) {
-    let mut k: usize = 0;
-    while k < from.len() {
-        if to.len() <= k {
-            return;
-        }
-        to[k] = from[k];
-        k += 1;
-    }
-}
-
-// The first bytes of a are those of b.
-pub fn same_bytes(a: &[u8], b: &[u8]) -> bool {
-    if a.len() < b.len() {
-        return false;
-    }
-    let mut i: usize = 0;
-    while i < b.len() {
-        if a[i] != b[i] {
-            return false;
-        }
-        i += 1;
-    }
-    true
-}
-
-// The first numbers of a are those of b.
-pub fn same_numbers(a: &[u64], b: &[u64]) -> bool {
-    if a.len() < b.len() {
-        return false;
-    }
-    let mut i: usize = 0;
-    while i < b.len() {
-        if a[i] != b[i] {
-            return false;
-        }
-        i += 1;
-    }
-    true
+    let count = from.len().min(to.len());
+    to[..count].copy_from_slice(&from[..count]);
 }

@@ -1,23 +1,66 @@
-// The calls of lines, each on so much of body and heads as its line says, and with the list of desks that the line lends. A call is given
-// how many heads there are, the key, and an append's number or a read's room; fresh the reserves and ceilings.
-ghost use Rattle.std.specs.Prelude.{◌≤◌, length};
+// The calls of lines, each on so much of body and heads as its line says, and with what the line tells of desks. A call is given how many
+// heads there are, the key, and an append's number or a read's room; fresh the reserves and ceilings.
+use crate::desks::{Appended, BEFORE, Counted, Desks, EachDesk, KeyDesk};
+use crate::memory::{Book, DESKS, NUMBERS};
+use hex_fields::{field, first_numbers, hex, part};
 
-use crate::{core_calls, memory};
-use hex_fields::{field, hex, part};
+// What a line does.
+#[derive(Clone, Copy, PartialEq, Eq)]
+pub enum Kind {
+    Fresh,
+    Load,
+    Append,
+    Read,
+    Drop,
+    LoadTight,
+    // Somebody else wrote the book.
+    Written,
+    // A history begins.
+    Begins,
+}
 
-// What numbers that go out hold before a call.
-pub const BEFORE: u64 = 0x5a;
-// What a call answers that the program can't make, or that gives another list: no refusal has this number.
-pub const UNKNOWN: u32 = 0xffff_ffff;
+// What a line does, by its number: that of a call of the core is 16 above the book's.
+pub fn kind_of(line: &[u8]) -> Option<Kind> {
+    match hex(part(line, 0, 2)) {
+        0x30 => Some(Kind::Fresh),
+        0x31 | 0x41 => Some(Kind::Load),
+        0x32 | 0x42 => Some(Kind::Append),
+        0x33 | 0x43 => Some(Kind::Read),
+        0x34 | 0x44 => Some(Kind::Drop),
+        0x35 => Some(Kind::Written),
+        0x36 => Some(Kind::Begins),
+        0x37 | 0x47 => Some(Kind::LoadTight),
+        _ => None,
+    }
+}
 
-// The answer of a call that tells two numbers: those, and behind eight numbers its refusal's.
-pub fn answer(a: u64, b: u64, number: u32) -> [u64; 9] {
-    [a, b, 0, 0, 0, 0, 0, 0, number as u64]
+// What a call answers: the numbers that it tells, and the number of its refusal, or 0.
+#[derive(Clone, Copy, PartialEq, Eq)]
+struct Answer {
+    told: [u64; 8],
+    refusal: u64,
+}
+
+// The answer of a call that tells two numbers at most.
+fn told(a: u64, b: u64, refusal: u32) -> Answer {
+    Answer {
+        told: [a, b, 0, 0, 0, 0, 0, 0],
+        refusal: u64::from(refusal),
+    }
+}
+
+// The answer that a line has.
+fn wanted(line: &[u8]) -> Answer {
+    Answer {
+        told: first_numbers(field(line, 4)),
+        refusal: hex(part(line, 2, 4)),
+    }
 }
 
 // Loads the list of a line, with a spare slot or tight.
-fn load(
-    s: &[u8],
+fn load<D: Desks>(
+    desks: &D,
+    line: &[u8],
     tight: bool,
     key: u64,
     body: &mut [u8],
@@ -25,44 +68,22 @@ fn load(
     mark: &mut u64,
     free: &mut [u64; 9],
     counts: &mut [u64; 49],
-    desks: &[u8],
-) -> [u64; 9] {
-    let mut list = memory::list();
-    let count = hex_fields::numbers(field(s, 3), &mut list);
-    if memory::NUMBERS < count {
-        return answer(0, 0, UNKNOWN);
-    }
+) -> Option<Answer> {
+    let mut room = [0u64; NUMBERS];
+    let count = hex_fields::numbers(field(line, 3), &mut room);
+    let list = room.get(..count)?;
     let mut pages = BEFORE;
-    if tight {
-        let number = ouriscado::ouriscado_book_load_tight(
-            body,
-            heads,
-            mark,
-            free,
-            counts,
-            desks,
-            key,
-            &list[0..count],
-            &mut pages,
-        );
-        return answer(pages, 0, number);
-    }
-    let number = ouriscado::ouriscado_book_load(
-        body,
-        heads,
-        mark,
-        free,
-        counts,
-        desks,
-        key,
-        &list[0..count],
-        &mut pages,
-    );
-    answer(pages, 0, number)
+    let refusal = if tight {
+        desks.load_tight(body, heads, mark, free, counts, key, list, &mut pages)
+    } else {
+        desks.load(body, heads, mark, free, counts, key, list, &mut pages)
+    };
+    Some(told(pages, 0, refusal))
 }
 
 // Appends a number.
-fn append(
+fn append<D: Desks>(
+    desks: &D,
     key: u64,
     n: u64,
     body: &mut [u8],
@@ -70,252 +91,188 @@ fn append(
     mark: &mut u64,
     free: &mut [u64; 9],
     counts: &mut [u64; 49],
-    desks: &[u8],
-) -> [u64; 9] {
-    let mut kind = BEFORE as u8;
-    let mut class = BEFORE as u8;
-    let mut used = BEFORE as u16;
-    let mut place = BEFORE;
-    let mut rewritten = BEFORE;
-    let number = ouriscado::ouriscado_book_append(
+) -> Answer {
+    let mut to = Appended {
+        kind: BEFORE as u8,
+        class: BEFORE as u8,
+        used: BEFORE as u16,
+        place: BEFORE,
+        rewritten: BEFORE,
+    };
+    let refusal = desks.append(body, heads, mark, free, counts, key, n, &mut to);
+    Answer {
+        told: [
+            u64::from(to.kind),
+            u64::from(to.class),
+            u64::from(to.used),
+            to.place,
+            to.rewritten,
+            0,
+            0,
+            0,
+        ],
+        refusal: u64::from(refusal),
+    }
+}
+
+// Reads a key into the start of a list, with the room that a line says; the whole list then has to be the line's. A line doesn't tell how
+// many numbers are padded, so that this isn't compared.
+fn read<D: Desks>(
+    desks: &D,
+    line: &[u8],
+    key: u64,
+    room: u64,
+    body: &mut [u8],
+    heads: &mut [u64],
+    mark: &mut u64,
+    free: &mut [u64; 9],
+    counts: &mut [u64; 49],
+) -> Option<Answer> {
+    let mut list = [0u64; NUMBERS];
+    let mut counted = Counted {
+        length: BEFORE,
+        pages: BEFORE,
+        padded: BEFORE,
+    };
+    let refusal = desks.read(
         body,
         heads,
         mark,
         free,
         counts,
-        desks,
         key,
-        n,
-        &mut kind,
-        &mut class,
-        &mut used,
-        &mut place,
-        &mut rewritten,
+        list.get_mut(..room as usize)?,
+        &mut counted,
     );
-    [
-        kind as u64,
-        class as u64,
-        used as u64,
-        place,
-        rewritten,
-        0,
-        0,
-        0,
-        number as u64,
-    ]
-}
-
-// A list holds what a line says of it, and behind that zeros.
-pub fn lists(s: &[u8], list: &[u64; memory::NUMBERS]) -> bool {
-    let mut wanted = memory::list();
-    hex_fields::numbers(field(s, 5), &mut wanted);
-    hex_fields::same_numbers(&wanted, list)
-}
-
-// Reads into a list. A line doesn't tell how many numbers are padded, so that this isn't compared.
-fn read_into(
-    key: u64,
-    body: &[u8],
-    heads: &[u64],
-    mark: u64,
-    counts: &[u64; 49],
-    desks: &[u8],
-    list: &mut [u64],
-) -> [u64; 9] {
-    let mut length = BEFORE;
-    let mut pages = BEFORE;
-    let mut padded = BEFORE;
-    let number = ouriscado::ouriscado_book_read(
-        body,
-        heads,
-        mark,
-        counts,
-        desks,
-        key,
-        list,
-        &mut length,
-        &mut pages,
-        &mut padded,
-    );
-    answer(length, pages, number)
-}
-
-// Reads a key into the start of a list, with the room that a line says; the whole list then has to be the line's.
-fn read(
-    s: &[u8],
-    key: u64,
-    room: u64,
-    body: &[u8],
-    heads: &[u64],
-    mark: u64,
-    counts: &[u64; 49],
-    desks: &[u8],
-) -> [u64; 9] {
-    let mut list = memory::list();
-    let end = room as usize;
-    if memory::NUMBERS < end {
-        return answer(0, 0, UNKNOWN);
+    if list != first_numbers(field(line, 5)) {
+        return None;
     }
-    let told = read_into(key, body, heads, mark, counts, desks, &mut list[0..end]);
-    if lists(s, &list) {
-        return told;
-    }
-    answer(0, 0, UNKNOWN)
+    Some(told(counted.length, counted.pages, refusal))
 }
 
 // Drops a key.
-fn drop(
+fn drop_key<D: Desks>(
+    desks: &D,
     key: u64,
     body: &mut [u8],
     heads: &mut [u64],
     mark: &mut u64,
     free: &mut [u64; 9],
     counts: &mut [u64; 49],
-    desks: &[u8],
-) -> [u64; 9] {
+) -> Answer {
     let mut length = BEFORE;
-    let number = ouriscado::ouriscado_book_drop(
-        body,
-        heads,
-        mark,
-        free,
-        counts,
-        desks,
-        key,
-        &mut length,
-    );
-    answer(length, 0, number)
+    let refusal = desks.drop_key(body, heads, mark, free, counts, key, &mut length);
+    told(length, 0, refusal)
 }
 
 // Makes a fresh book with the reserves and ceilings of a line, which stand behind how many heads there are.
 fn fresh(
-    s: &[u8],
-    body: &[u8],
+    line: &[u8],
+    desks: &[u8],
+    body: &mut [u8],
     heads: &mut [u64],
     mark: &mut u64,
     free: &mut [u64; 9],
     counts: &mut [u64; 49],
-    desks: &[u8],
-) -> [u64; 9] {
-    let mut given = [0u64; 33];
-    hex_fields::numbers(field(s, 1), &mut given);
+) -> Answer {
+    let given: [u64; 33] = first_numbers(field(line, 1));
     let mut reserve = [0u64; 16];
     let mut ceiling = [0u64; 16];
-    hex_fields::put(&given[1..17], &mut reserve);
-    hex_fields::put(&given[17..33], &mut ceiling);
-    let number = ouriscado::ouriscado_book_fresh(
+    reserve.copy_from_slice(&given[1..17]);
+    ceiling.copy_from_slice(&given[17..33]);
+    let refusal = ouriscado::ouriscado_book_fresh(
         body, heads, mark, free, counts, desks, &reserve, &ceiling,
     );
-    answer(0, 0, number)
+    told(0, 0, refusal)
 }
 
-// Makes the call of a line that lends the list of desks: fresh, load, append, read, drop or tight load, by the line's number.
-fn call_listed(
-    s: &[u8],
+// Makes the call of a line on a key, with what the line tells of desks; nothing where there is no such call.
+fn on_key<D: Desks>(
+    desks: &D,
+    line: &[u8],
     given: [u64; 4],
     body: &mut [u8],
     heads: &mut [u64],
     mark: &mut u64,
     free: &mut [u64; 9],
     counts: &mut [u64; 49],
-    desks: &[u8],
-) -> [u64; 9] {
-    let kind = hex(part(s, 0, 2));
-    match kind {
-        0x30 => fresh(s, body, heads, mark, free, counts, desks),
-        0x31 => load(s, false, given[1], body, heads, mark, free, counts, desks),
-        0x32 => append(given[1], given[2], body, heads, mark, free, counts, desks),
-        0x33 => read(s, given[1], given[2], body, heads, *mark, counts, desks),
-        0x34 => drop(given[1], body, heads, mark, free, counts, desks),
-        0x37 => load(s, true, given[1], body, heads, mark, free, counts, desks),
-        _ => answer(0, 0, UNKNOWN),
+) -> Option<Answer> {
+    let [_, key, third, _] = given;
+    match kind_of(line)? {
+        Kind::Load => load(desks, line, false, key, body, heads, mark, free, counts),
+        Kind::LoadTight => load(desks, line, true, key, body, heads, mark, free, counts),
+        Kind::Append => Some(append(desks, key, third, body, heads, mark, free, counts)),
+        Kind::Read => read(desks, line, key, third, body, heads, mark, free, counts),
+        Kind::Drop => Some(drop_key(desks, key, body, heads, mark, free, counts)),
+        Kind::Fresh | Kind::Written | Kind::Begins => None,
     }
 }
 
-// Puts the desks that a field names, by two digits each, to a list, and zeros behind them.
-fn put_desks(s: &[u8], list: &mut [u8]) {
-    let mut k: usize = 0;
-    while k < list.len() {
-        if memory::DESKS <= k {
-            return;
-        }
-        list[k] = (hex(part(s, 2 * k, 2 * k + 2)) % 0x100) as u8;
-        k += 1;
+// Puts the desks that a field names, by two digits each, to a list.
+fn put_desks(told: &[u8], list: &mut [u8]) {
+    let (digits, _) = told.as_chunks::<2>();
+    for (desk, pair) in list.iter_mut().zip(digits) {
+        *desk = (hex(pair) % 0x100) as u8;
     }
 }
 
-// Makes the call of a line: of the core, which is told a desk, or one that lends the list of desks.
+// Makes the call of a line: of the core, which is told a desk, or one that is told the desk of each key.
 fn call(
-    s: &[u8],
+    line: &[u8],
     given: [u64; 4],
     body: &mut [u8],
     heads: &mut [u64],
     mark: &mut u64,
     free: &mut [u64; 9],
     counts: &mut [u64; 49],
-) -> [u64; 9] {
-    let kind = hex(part(s, 0, 2));
-    let told = field(s, 2);
-    if 0x40 <= kind {
-        let desk = hex(told);
-        return core_calls::call(s, kind, given, body, heads, mark, free, counts, desk);
+) -> Option<Answer> {
+    let told = field(line, 2);
+    if 0x40 <= hex(part(line, 0, 2)) {
+        return on_key(
+            &KeyDesk(hex(told)),
+            line,
+            given,
+            body,
+            heads,
+            mark,
+            free,
+            counts,
+        );
     }
-    let end = told.len() / 2;
-    if memory::DESKS < end {
-        return answer(0, 0, UNKNOWN);
+    let mut room = [0u8; DESKS];
+    let desks = room.get_mut(..told.len() / 2)?;
+    put_desks(told, desks);
+    if kind_of(line) == Some(Kind::Fresh) {
+        return Some(fresh(line, desks, body, heads, mark, free, counts));
     }
-    let mut list = [0u8; memory::DESKS];
-    put_desks(told, &mut list);
-    call_listed(s, given, body, heads, mark, free, counts, &list[0..end])
-}
-
-// Makes the call of a line on so many words of our book.
-fn call_on(s: &[u8], given: [u64; 4], body: &mut [u8], words: &mut [u64]) -> [u64; 9] {
-    let heads = given[0];
-    if memory::HEADS < heads {
-        return answer(0, 0, UNKNOWN);
-    }
-    let end = memory::STATE + heads as usize;
-    if words.len() < end {
-        return answer(0, 0, UNKNOWN);
-    }
-    let mut mark = words[0];
-    let mut free = memory::free_of(words);
-    let mut counts = [0u64; 49];
-    hex_fields::put(&words[memory::COUNTS..memory::STATE], &mut counts);
-    let told = call(
-        s,
+    on_key(
+        &EachDesk(desks),
+        line,
         given,
         body,
-        &mut words[memory::STATE..end],
-        &mut mark,
-        &mut free,
-        &mut counts,
-    );
-    memory::put_state(words, mark, &free, &counts);
-    told
-}
-
-// The first four numbers of a field.
-fn four(field: &[u8]) -> [u64; 4] {
-    let mut given = [0u64; 4];
-    hex_fields::numbers(field, &mut given);
-    given
-}
-
-// An answer has the refusal of a line, and tells what the line says and nothing besides.
-fn tells(s: &[u8], told: [u64; 9]) -> bool {
-    let mut wanted = [0u64; 9];
-    hex_fields::numbers(field(s, 4), &mut wanted);
-    wanted[8] = hex(part(s, 2, 4));
-    hex_fields::same_numbers(&told, &wanted)
+        heads,
+        mark,
+        free,
+        counts,
+    )
 }
 
 // Makes the call of a line on our book; whether it answers what the line says.
-pub fn agrees(s: &[u8], body: &mut [u8], words: &mut [u64]) -> bool {
-    let len = hex(part(s, 4, 8)) as usize;
-    if body.len() < len {
+pub fn agrees(line: &[u8], book: &mut Book) -> bool {
+    let given: [u64; 4] = first_numbers(field(line, 1));
+    let bytes = hex(part(line, 4, 8)) as usize;
+    let Book {
+        body,
+        mark,
+        free,
+        counts,
+        heads,
+    } = book;
+    let Some(body) = body.get_mut(..bytes) else {
         return false;
-    }
-    tells(s, call_on(s, four(field(s, 1)), &mut body[0..len], words))
+    };
+    let Some(heads) = heads.get_mut(..given[0] as usize) else {
+        return false;
+    };
+    call(line, given, body, heads, mark, free, counts) == Some(wanted(line))
 }

@@ -4,55 +4,32 @@
 
 mod calls;
 mod changes;
-mod core_calls;
+mod desks;
 mod memory;
 
-use hex_fields::{field, hex, part};
-use std::fs;
-use std::io::ErrorKind;
+use calls::{Kind, kind_of};
+use hex_fields::{field, title};
+use memory::Book;
+use std::io;
 use std::rt::Files;
+use text::Pieces;
 
-// The descriptor of standard output.
-const STDOUT: i32 = 1;
-
-// The kinds of lines that make no call: somebody else wrote the book, and a history begins.
-const WRITTEN: u64 = 0x35;
-
-const BEGINS: u64 = 0x36;
-
-// Whether a line makes no call.
-fn makes_no_call(kind: u64) -> bool {
-    if kind == WRITTEN {
-        return true;
+// Replays a line on our book: makes its call, or writes what somebody else wrote. Tells whether the call answers what the line says.
+fn replay_ours(line: &[u8], ours: &mut Book) -> bool {
+    match kind_of(line) {
+        Some(Kind::Written | Kind::Begins) => {
+            changes::make(field(line, 6), ours);
+            true
+        }
+        _ => calls::agrees(line, ours),
     }
-    kind == BEGINS
 }
 
-// Replays a line on our book: makes its call, or writes what somebody else wrote.
-fn replay_ours(s: &[u8], body: &mut [u8; memory::BODY], words: &mut [u64; memory::BOTH]) -> bool {
-    if makes_no_call(hex(part(s, 0, 2))) {
-        changes::make(field(s, 6), body, words, memory::OURS);
-        return true;
-    }
-    calls::agrees(s, body, words)
-}
-
-// Replays a line, and then compares our book with the one that is wanted.
-fn replay(
-    s: &[u8],
-    body: &mut [u8; memory::BODY],
-    wanted: &mut [u8; memory::BODY],
-    words: &mut [u64; memory::BOTH],
-) -> bool {
-    let agrees = replay_ours(s, body, words);
-    changes::make(field(s, 6), wanted, words, memory::WANTED);
-    if !agrees {
-        return false;
-    }
-    if !memory::same_words(words) {
-        return false;
-    }
-    hex_fields::same_bytes(body, wanted)
+// Replays a line, and then compares our book with the one that is wanted, which the line changes.
+fn replay(line: &[u8], ours: &mut Book, wanted: &mut Book) -> bool {
+    let agrees = replay_ours(line, ours);
+    changes::make(field(line, 6), wanted);
+    agrees && *ours == *wanted
 }
 
 // How many lines of a file were replayed, how many of them differ, and how many histories began.
@@ -64,106 +41,62 @@ struct Count {
 }
 
 impl Count {
-    // A line more was replayed.
-    fn line(mut self, agrees: bool) -> Self {
-        self.lines = std::num::wrapping_add_u64(self.lines, 1);
-        if !agrees {
-            self.differ = std::num::wrapping_add_u64(self.differ, 1);
+    // Counts a line that was replayed, and writes where it differs.
+    fn line<P: Print>(&mut self, rt: &P, line: &[u8], agrees: bool) -> io::Result<()> {
+        self.lines = self.lines.saturating_add(1);
+        if kind_of(line) == Some(Kind::Begins) {
+            self.histories = self.histories.saturating_add(1);
         }
-        self
+        if agrees {
+            return Ok(());
+        }
+        self.differ = self.differ.saturating_add(1);
+        println!(rt; "line {} differs", self.lines)
     }
 
-    // A history more began.
-    fn history(mut self) -> Self {
-        self.histories = std::num::wrapping_add_u64(self.histories, 1);
-        self
+    // Writes the line of a file: its title, and what was counted.
+    fn show<P: Print>(&self, rt: &P, title: &[u8]) -> io::Result<()> {
+        let Count {
+            lines,
+            differ,
+            histories,
+        } = *self;
+        rt.write_all(title)?;
+        println!(rt; ": {histories} histories, {lines} lines replayed, {differ} differ")
     }
 }
 
-// Writes that a line differs.
-fn show_line(number: u64) {
-    io::write_all(STDOUT, b"line ");
-    io::print_decimal(STDOUT, number);
-    io::write_all(STDOUT, b" differs\n");
-}
-
-// Writes the line of a file: its name, and what was counted.
-fn show(name: &[u8], count: Count) {
-    io::write_all(STDOUT, name);
-    io::write_all(STDOUT, b": ");
-    io::print_decimal(STDOUT, count.histories);
-    io::write_all(STDOUT, b" histories, ");
-    io::print_decimal(STDOUT, count.lines);
-    io::write_all(STDOUT, b" lines replayed, ");
-    io::print_decimal(STDOUT, count.differ);
-    io::write_all(STDOUT, b" differ\n");
-}
-
-// Counts a line that was replayed, and writes where it differs.
-fn counted(s: &[u8], agrees: bool, count: Count) -> Count {
-    let after = count.line(agrees);
-    if !agrees {
-        show_line(after.lines);
-    }
-    if hex(part(s, 0, 2)) == BEGINS {
-        return after.history();
-    }
-    after
-}
-
-// Replays a text: lines of histories, and at its end one with '=' and what they are.
-fn replay_all(text: &[u8]) {
-    let mut body = [0; memory::BODY];
-    let mut wanted = [0; memory::BODY];
-    let mut words = [0; memory::BOTH];
+// Replays a text: lines of histories, and at its end one with a title.
+fn replay_all<P: Print>(rt: &P, text: &[u8]) -> io::Result<()> {
+    let mut ours = Book::new();
+    let mut wanted = Book::new();
     let mut count = Count {
         lines: 0,
         differ: 0,
         histories: 0,
     };
-    let mut at: usize = 0;
-    while at < text.len() {
-        let s = hex_fields::until(text, at, b'\n');
-        if hex_fields::find(s, b'=') == 0 {
-            show(part(s, 1, s.len()), count);
-            return;
+    for line in Pieces::new(text, b'\n') {
+        if let Some(title) = title(line) {
+            return count.show(rt, title);
         }
-        let agrees = replay(s, &mut body, &mut wanted, &mut words);
-        count = counted(s, agrees, count);
-        if text.len() - at <= s.len() {
-            return;
-        }
-        at += s.len() + 1;
-    }
-}
-
-// Reads a file and replays it; false where there is none.
-fn replay_file(rt: &(impl Files + AllocGlobal), name: &str) -> std::io::Result<bool> {
-    match fs::read(rt, name) {
-        Ok(text) => {
-            replay_all(text.as_slice());
-            Ok(true)
-        }
-        Err(e) => {
-            if e.kind() == ErrorKind::NotFound {
-                return Ok(false);
-            }
-            Err(e)
-        }
-    }
-}
-
-// Replays the files, each named by h and a digit.
-fn replay_files(rt: &(impl Files + AllocGlobal)) -> std::io::Result<()> {
-    for k in 0..10u8 {
-        let name = format!(in rt.alloc(); "h{k}")?;
-        if !replay_file(rt, name.as_str())? {
-            return Ok(());
-        }
+        let agrees = replay(line, &mut ours, &mut wanted);
+        count.line(rt, line, agrees)?;
     }
     Ok(())
 }
 
-fn main(rt: HostRuntime) -> std::io::Result<()> {
+// Replays the files, each named by h and a digit, up to the first that isn't there.
+fn replay_files<R: Print + Files + AllocGlobal>(rt: &R) -> io::Result<()> {
+    for k in 0..10u8 {
+        let name = format!(in rt.alloc(); "h{k}")?;
+        let Some(text) = hex_fields::read_file(rt, name.as_str())? else {
+            break;
+        };
+        replay_all(rt, text.as_slice())?;
+    }
+    Ok(())
+}
+
+fn main(rt: HostRuntime) -> io::Result<()> {
     replay_files(&rt)
 }

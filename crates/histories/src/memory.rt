@@ -1,69 +1,44 @@
-// The memory of two books: ours, which calls change, and the one that is wanted, which the lines change. Each has a body of its own; the
-// words of both stand in one array, in each half 59 of the state and then the heads. The contracts give the lengths, which lending needs.
-ghost use Rattle.std.specs.Prelude.{◌≡◌, ◌≤◌, length};
+// The memory of a book: its body, its state and its head words.
 
-// Where the words of each book begin.
-pub const OURS: usize = 0;
+// The most heads, and the most desks of a list that is lent.
+pub const HEADS: usize = 6;
 
-pub const WANTED: usize = 65;
-// The words of both books.
-pub const BOTH: usize = 130;
-// Where the counts of desks begin, behind the mark and the free heads; the words of the state; and the most heads.
-pub const COUNTS: usize = 10;
-
-pub const STATE: usize = 59;
-
-pub const HEADS: u64 = 6;
-// The most desks of a list that is lent.
 pub const DESKS: usize = 32;
 // The bytes of the largest body, and the most numbers of a list.
 pub const BODY: usize = 61440;
 
 pub const NUMBERS: usize = 16384;
 
-// A list of the most numbers.
-pub fn list() -> [u64; NUMBERS]
-    ensures { 16384 ≡ length result }
-{
-    [0; NUMBERS]
+// A book with the largest body.
+#[derive(PartialEq, Drop)]
+pub struct Book {
+    pub body: [u8; BODY],
+    pub mark: u64,
+    pub free: [u64; 9],
+    pub counts: [u64; 49],
+    pub heads: [u64; HEADS],
 }
 
-// The words of our book are those of the one that is wanted.
-pub fn same_words(words: &[u64]) -> bool {
-    if words.len() < BOTH {
-        return false;
+impl Book {
+    // Before a history begins.
+    pub fn new() -> Self {
+        Book {
+            body: [0; BODY],
+            mark: 0,
+            free: [0; 9],
+            counts: [0; 49],
+            heads: [0; HEADS],
+        }
     }
-    hex_fields::same_numbers(&words[OURS..WANTED], &words[WANTED..BOTH])
-}
 
-// The free heads of our book.
-pub fn free_of(words: &[u64]) -> [u64; 9]
-    requires { 10 ≤ length words.now }
-{
-    [
-        words[1], words[2], words[3], words[4], words[5], words[6], words[7], words[8], words[9],
-    ]
-}
-
-// Makes the words of our book hold a mark and free heads.
-fn put_free(words: &mut [u64], mark: u64, free: &[u64; 9])
-    requires { 10 ≤ length words.old }
-{
-    hex_fields::put(free, &mut words[1..COUNTS]);
-    words[0] = mark;
-}
-
-// Makes the words of our book hold counts.
-fn put_counts(words: &mut [u64], counts: &[u64; 49])
-    requires { 59 ≤ length words.old }
-{
-    hex_fields::put(counts, &mut words[COUNTS..STATE]);
-}
-
-// Makes the words of our book hold a mark, free heads and counts.
-pub fn put_state(words: &mut [u64], mark: u64, free: &[u64; 9], counts: &[u64; 49])
-    requires { 59 ≤ length words.old }
-{
-    put_free(words, mark, free);
-    put_counts(words, counts);
+    // Puts a word to its place among the mark, the free heads, the counts and the head words, in this order.
+    pub fn set_word(&mut self, place: usize, word: u64) {
+        match place {
+            0 => self.mark = word,
+            1..=9 => self.free[place - 1] = word,
+            10..=58 => self.counts[place - 10] = word,
+            59..=64 => self.heads[place - 59] = word,
+            _ => {}
+        }
+    }
 }

@@ -2,8 +2,13 @@
 use Prim.Native.Nat.{ℕ}
 use mathlib.Core.List.{List}
 use mathlib.Core.Logic.{◌≢◌}
-use mathlib.Core.Path.{◌≡◌, sym, ap, ◌∙◌}
+use mathlib.Core.Path.{◌≡◌, refl, sym, ap, ◌∙◌}
+use native.Mathlib.Omega.{arith}
+use Rattle.std.specs.Prelude.{Result, Ok, Err}
 use Rattle.error.specs.Refusal.{Answer, accepted, refused, refusal_of}
+use Rattle.error.specs.Answers.{number_of, refusal_in}
+use Rattle.error.specs.declared.Refusal.{Refusal}
+use Rattle.error.proofs.LawsResult.{number_pos}
 use Rattle.book_rules.specs.Outcomes.{Listed, book_after}
 use Rattle.book_desks.specs.Desks.{desk_of}
 use Rattle.book.specs.Book.{Book, Outcome, with_desks}
@@ -47,8 +52,19 @@ pub turned_back : {A : Type 0} (ds : List ℕ) (b : Book) (key : ℕ) (call : �
     → with_desks ds b key call ≡ refused number
 turned_back ds b key call told some' = call_off ds b key call (λ z. some' (told ∙ z)) ∙ ap refused (sym told)
 
+-- The same of the answer of the judgement.
+pub turned_back_with : {A : Type 0} (ds : List ℕ) (b : Book) (key : ℕ) (call : ℕ → Answer A) {r : Result (Unit {0}) Refusal} {refusal : Refusal}
+    → refusal_in r ≡ call_number ds b → r ≡ Err refusal → with_desks ds b key call ≡ refused (number_of refusal)
+turned_back_with ds b key call {refusal = refusal} told is =
+    turned_back ds b key call (sym (ap refusal_in is) ∙ told) (λ z. let p = number_pos refusal in omega arith)
+
 -- One that isn't is made for the key's desk.
 pub made_for : {A : Type 0} (ds : List ℕ) (b : Book) (key : ℕ) (call : ℕ → Answer A) {number desk : ℕ} → number ≡ call_number ds b
     → number ≡ 0
     → desk ≡ desk_of ds key → with_desks ds b key call ≡ call desk
 made_for ds b key call told none' is = call_on ds b key call (sym told ∙ none') ∙ ap call (sym is)
+
+-- The same of the answer of the judgement.
+pub made_with : {A : Type 0} (ds : List ℕ) (b : Book) (key : ℕ) (call : ℕ → Answer A) {r : Result (Unit {0}) Refusal} {judged : Unit {0}} {desk : ℕ}
+    → refusal_in r ≡ call_number ds b → r ≡ Ok judged → desk ≡ desk_of ds key → with_desks ds b key call ≡ call desk
+made_with ds b key call told is = made_for ds b key call (sym (ap refusal_in is) ∙ told) refl

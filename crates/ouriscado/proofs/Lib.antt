@@ -1,2 +1,3 @@
+pub mod LawsAnswers
 pub mod LawsBook
 pub mod LawsOut

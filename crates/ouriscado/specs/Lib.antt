@@ -3,3 +3,4 @@ pub mod OutClass
 pub mod OutExtend
 pub mod OutHead
 pub mod OutPage
+pub mod Answers

@@ -13,7 +13,8 @@ ghost use Rattle.book_read.specs.Answers.{counted_of};
 ghost use Rattle.ouriscado.specs.OutHead.{kind_out, class_out, used_out, place_out};
 ghost use Rattle.ouriscado.specs.OutBook.{pages_loaded, new_place, records_rewritten, length_dropped};
 
-use crate::handed::{put_appended, put_dropped, put_listed, put_loaded};
+use crate::answers::hand_out;
+use crate::handed::{put_appended, put_listed};
 use book_rules::SlabFit;
 
 // Loads a list onto an empty key for a desk, by a rule for its slab. The desk stands before the counts, other than in the exports: two
@@ -45,7 +46,7 @@ pub fn core_load_by(
 {
     // the list as a part, so that the compiler hands its place and length on in registers
     let answer = book_load::load(body, heads, mark, free, counts, desk, fit, key, &fks[0..]);
-    put_loaded(answer, pages)
+    hand_out(answer, 0, pages)
 }
 
 // Loads a list of record numbers onto an empty key as ouriscado_book_load does, for the desk of a number: 39 above 15. The counts are
@@ -230,5 +231,5 @@ pub extern "C" fn ouriscado_core_drop(
         ≡ book_of body.old heads.old mark.old free.old counts.old }
 {
     let answer = book_drop::drop(body, heads, mark, free, counts, desk, key);
-    put_dropped(answer, length)
+    hand_out(answer, 0, length)
 }

@@ -8,15 +8,16 @@ ghost use Rattle.book_extend.specs.Answers.{extend_answer};
 ghost use Rattle.ouriscado.specs.OutHead.{kind_out, class_out, used_out, place_out};
 ghost use Rattle.ouriscado.specs.OutExtend.{numbers_accepted, next_refusal, place_extended, moves_made, rewritten_by_moves};
 
+use crate::answers::number_of_end;
 use crate::head::put_head;
 use book_desks::desk_of;
-use book_extend::BookExtend;
-use scripthash_layout::Unpacked;
+use book_extend::ExtendedBy;
+use error::Refusal;
 
 // Hands out how many numbers were accepted, by which number the next one was refused, the key's place, the moves and the records
 // rewritten by them.
 fn put_extended(
-    answer: BookExtend,
+    answer: Result<ExtendedBy, Refusal>,
     accepted: &mut u64,
     refusal: &mut u32,
     kind: &mut u8,
@@ -37,20 +38,19 @@ fn put_extended(
     ensures rewritten { rewritten.new ≡ value_or rewritten_by_moves (extend_answer answer) 0 }
 {
     match answer {
-        BookExtend::Extended(by) => {
-            let v = by.place;
+        Ok(by) => {
             *accepted = by.count;
-            *refusal = by.refusal;
+            *refusal = number_of_end(by.refusal);
             *moves = by.moves;
             *rewritten = by.rewritten;
-            put_head(Unpacked::Head(v), kind, class, used, place)
+            put_head(Ok(by.place), kind, class, used, place)
         }
-        BookExtend::Refused(number) => {
+        Err(turned_back) => {
             *accepted = 0;
             *refusal = 0;
             *moves = 0;
             *rewritten = 0;
-            put_head(Unpacked::Refused(number), kind, class, used, place)
+            put_head(Err(turned_back), kind, class, used, place)
         }
     }
 }
@@ -177,11 +177,17 @@ pub extern "C" fn ouriscado_book_extend(
     ensures kept { result ≢ 0 → book_of body.new heads.new mark.new free.new counts.new
         ≡ book_of body.old heads.old mark.old free.old counts.old }
 {
-    let number = book::judge_call(body, heads.len(), *mark, counts, desks);
-    if number != 0 {
-        let refused = BookExtend::Refused(number);
+    if let Err(turned_back) = book::judge_call(body, heads.len(), *mark, counts, desks) {
         return put_extended(
-            refused, accepted, refusal, kind, class, used, place, moves, rewritten,
+            Err(turned_back),
+            accepted,
+            refusal,
+            kind,
+            class,
+            used,
+            place,
+            moves,
+            rewritten,
         );
     }
     let desk = desk_of(desks, key);

@@ -1,28 +1,10 @@
 // How many numbers a key of the account book has.
 ghost use Rattle.std.specs.Prelude.{List, ◌≡◌, ℕ};
 ghost use Rattle.error.specs.Refusal.{refusal_of, value_or};
-ghost use Rattle.book_keys.specs.Answers.{length_answer};
 ghost use Rattle.book.specs.Answers.{book_of};
 ghost use Rattle.book_read.specs.Lengths.{lengths, lengths_with};
 
-use book_keys::KeyLength;
-
-// Hands out how many numbers a key has.
-fn put_length(answer: KeyLength, length: &mut u64) -> u32
-    ensures number { result ≡ refusal_of (length_answer answer) }
-    ensures length { length.new ≡ value_or (λ n. n) (length_answer answer) 0 }
-{
-    match answer {
-        KeyLength::Length(n) => {
-            *length = n;
-            0
-        }
-        KeyLength::Refused(number) => {
-            *length = 0;
-            number
-        }
-    }
-}
+use crate::answers::hand_out;
 
 // Tells how many record numbers the list of a key has, as ouriscado_book_length does; it is lent neither counts nor desks. Refuses 1, 2,
 // 31.
@@ -39,8 +21,7 @@ pub extern "C" fn ouriscado_core_length(
     ensures length { (free counts : List ℕ) → length.new
         ≡ value_or (λ n. n) (lengths (book_of body.now heads.now mark free counts) key) 0 }
 {
-    let answer = book_read::length(body, heads, mark, key);
-    put_length(answer, length)
+    hand_out(book_read::length(body, heads, mark, key), 0, length)
 }
 
 // Hands out length, how many record numbers the list of a key has: a list of that length that is lent to ouriscado_book_read isn't too
@@ -60,9 +41,8 @@ pub extern "C" fn ouriscado_book_length(
     ensures length { (free : List ℕ) → length.new ≡ value_or (λ n. n) (lengths_with desks.now
         (book_of body.now heads.now mark free counts.now) key) 0 }
 {
-    let refusal = book::judge_call(body, heads.len(), mark, counts, desks);
-    if refusal != 0 {
-        return put_length(KeyLength::Refused(refusal), length);
+    if let Err(refusal) = book::judge_call(body, heads.len(), mark, counts, desks) {
+        return hand_out(Err(refusal), 0, length);
     }
     ouriscado_core_length(body, heads, mark, key, length)
 }

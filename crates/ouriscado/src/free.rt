@@ -2,46 +2,30 @@
 ghost use Rattle.std.specs.Prelude.{◌≡◌};
 ghost use Rattle.error.specs.Refusal.{refusal_of, value_or};
 ghost use Rattle.scripthash_free.specs.FreeList.{lists, push_free, pop_free, carve_gap, reloc_class, lists_after, heads_after};
-ghost use Rattle.scripthash_free.specs.Answers.{class_answer, pop_answer};
+ghost use Rattle.scripthash_free.specs.Answers.{pop_answer};
 ghost use Rattle.std.proofs.Math.Option.{get_or};
 ghost use Rattle.ouriscado.specs.OutClass.{has_class};
 
-use scripthash_free::{PopFree, RelocClass};
-
-// Hands out a class, and tells whether there is one.
-fn put_reloc_class(choice: RelocClass, class: &mut u8) -> bool
-    ensures some { result ≡ has_class (class_answer choice) }
-    ensures class { class.new ≡ get_or (class_answer choice) 0 }
-{
-    match choice {
-        RelocClass::Class(c) => {
-            *class = c;
-            true
-        }
-        RelocClass::Nothing => {
-            *class = 0;
-            false
-        }
-    }
-}
+use crate::answers::{hand_out_some, number};
+use error::Refusal;
 
 // Hands out the offset of a popped block, 0 where there is none.
-fn put_block(answer: PopFree, off: &mut u64) -> u32
+fn put_block(answer: Result<Option<u64>, Refusal>, off: &mut u64) -> u32
     ensures number { result ≡ refusal_of (pop_answer answer) }
     ensures off { off.new ≡ value_or (λ o. get_or o 0) (pop_answer answer) 0 }
 {
     match answer {
-        PopFree::Block(at) => {
+        Ok(Some(at)) => {
             *off = at;
             0
         }
-        PopFree::Nothing => {
+        Ok(None) => {
             *off = 0;
             0
         }
-        PopFree::Refused(number) => {
+        Err(refusal) => {
             *off = 0;
-            number
+            u32::from(refusal)
         }
     }
 }
@@ -52,7 +36,7 @@ pub extern "C" fn ouriscado_largest_reloc_class_le(bytes: u64, class: &mut u8) -
     ensures some { result ≡ has_class (reloc_class bytes) }
     ensures class { class.new ≡ get_or (reloc_class bytes) 0 }
 {
-    put_reloc_class(scripthash_free::largest_reloc_class_le(bytes), class)
+    hand_out_some(scripthash_free::largest_reloc_class_le(bytes), 0, class)
 }
 
 // Pushes a block onto its class's free list: its first 8 bytes name the head so far, and it becomes the head. Refuses 35.
@@ -68,8 +52,7 @@ pub extern "C" fn ouriscado_push_free_head(
         ≡ lists_after (push_free class off (lists body.old heads.old))
         (lists body.old heads.old) }
 {
-    let answer = scripthash_free::push_lent(body, heads, class, off);
-    answer.refusal()
+    number(scripthash_free::push_lent(body, heads, class, off))
 }
 
 // Pops a block of a class that lies below the mark, and hands out its offset, 0 where there is none. Refuses 35.
@@ -104,5 +87,5 @@ pub extern "C" fn ouriscado_carve_gap_into_freelist(
         ≡ lists_after (carve_gap from to (lists body.old heads.old))
         (lists body.old heads.old) }
 {
-    scripthash_free::carve_lent(body, heads, from, to)
+    number(scripthash_free::carve_lent(body, heads, from, to))
 }

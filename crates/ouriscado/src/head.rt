@@ -4,37 +4,12 @@ ghost use Rattle.std.specs.Prelude.{◌≡◌};
 ghost use Rattle.error.specs.Refusal.{refusal_of, value_or};
 ghost use Rattle.buffer.specs.LittleEndian.{little_endian};
 ghost use Rattle.scripthash_layout.specs.Head.{head_bytes, pack_head, unpack_head};
-ghost use Rattle.scripthash_layout.specs.AnswersHead.{pack_answer, unpack_answer};
+ghost use Rattle.scripthash_layout.specs.AnswersHead.{unpack_answer};
 ghost use Rattle.ouriscado.specs.OutHead.{kind_out, class_out, used_out, place_out};
 
-use scripthash_layout::{Packed, ShHeadValue, Unpacked};
-
-// The refusal's number of a packing, and 0 of a word.
-fn refusal_of(packed: Packed) -> u32
-    ensures { result ≡ refusal_of (pack_answer packed) }
-{
-    match packed {
-        Packed::Word(_) => 0,
-        Packed::Refused(number) => number,
-    }
-}
-
-// Hands out a packed word.
-fn put_word(packed: Packed, word: &mut u64) -> u32
-    ensures number { result ≡ refusal_of (pack_answer packed) }
-    ensures word { word.new ≡ value_or (λ x. x) (pack_answer packed) 0 }
-{
-    match packed {
-        Packed::Word(w) => {
-            *word = w;
-            0
-        }
-        Packed::Refused(number) => {
-            *word = 0;
-            number
-        }
-    }
-}
+use crate::answers::{hand_out, number};
+use error::Refusal;
+use scripthash_layout::ShHeadValue;
 
 // The word of no number.
 #[unsafe(no_mangle)]
@@ -42,7 +17,7 @@ pub extern "C" fn ouriscado_pack8_empty(word: &mut u64) -> u32
     ensures number { result ≡ refusal_of (pack_head ShHeadValue.Empty) }
     ensures word { word.new ≡ value_or (λ x. x) (pack_head ShHeadValue.Empty) 0 }
 {
-    put_word(scripthash_layout::pack8(ShHeadValue::Empty), word)
+    hand_out(scripthash_layout::pack8(ShHeadValue::Empty), 0, word)
 }
 
 // The word of an inline number. Refuses 24, 25.
@@ -51,8 +26,9 @@ pub extern "C" fn ouriscado_pack8_inline(entry: u64, used: u8, word: &mut u64) -
     ensures number { result ≡ refusal_of (pack_head (ShHeadValue.Inline entry used)) }
     ensures word { word.new ≡ value_or (λ x. x) (pack_head (ShHeadValue.Inline entry used)) 0 }
 {
-    put_word(
+    hand_out(
         scripthash_layout::pack8(ShHeadValue::Inline { entry, used }),
+        0,
         word,
     )
 }
@@ -63,8 +39,9 @@ pub extern "C" fn ouriscado_pack8_slab(class: u8, used: u16, off: u64, word: &mu
     ensures number { result ≡ refusal_of (pack_head (ShHeadValue.Slab class used off)) }
     ensures word { word.new ≡ value_or (λ x. x) (pack_head (ShHeadValue.Slab class used off)) 0 }
 {
-    put_word(
+    hand_out(
         scripthash_layout::pack8(ShHeadValue::Slab { class, used, off }),
+        0,
         word,
     )
 }
@@ -75,8 +52,9 @@ pub extern "C" fn ouriscado_pack8_extent(last: u64, word: &mut u64) -> u32
     ensures number { result ≡ refusal_of (pack_head (ShHeadValue.Extent last)) }
     ensures word { word.new ≡ value_or (λ x. x) (pack_head (ShHeadValue.Extent last)) 0 }
 {
-    put_word(
+    hand_out(
         scripthash_layout::pack8(ShHeadValue::Extent { last_page: last }),
+        0,
         word,
     )
 }
@@ -87,8 +65,7 @@ pub extern "C" fn ouriscado_pack8_bytes_empty(out: &mut [u8; 8]) -> u32
     ensures number { result ≡ refusal_of (pack_head ShHeadValue.Empty) }
     ensures bytes { out.new ≡ head_bytes (pack_head ShHeadValue.Empty) out.old }
 {
-    let packed = scripthash_layout::pack8_bytes(ShHeadValue::Empty, out);
-    refusal_of(packed)
+    number(scripthash_layout::pack8_bytes(ShHeadValue::Empty, out))
 }
 
 // The eight bytes that store an inline number. Refuses 24, 25.
@@ -97,8 +74,7 @@ pub extern "C" fn ouriscado_pack8_bytes_inline(entry: u64, used: u8, out: &mut [
     ensures number { result ≡ refusal_of (pack_head (ShHeadValue.Inline entry used)) }
     ensures bytes { out.new ≡ head_bytes (pack_head (ShHeadValue.Inline entry used)) out.old }
 {
-    let packed = scripthash_layout::pack8_bytes(ShHeadValue::Inline { entry, used }, out);
-    refusal_of(packed)
+    number(scripthash_layout::pack8_bytes(ShHeadValue::Inline { entry, used }, out))
 }
 
 // The eight bytes that store a slab's head. Refuses 26.
@@ -112,8 +88,7 @@ pub extern "C" fn ouriscado_pack8_bytes_slab(
     ensures number { result ≡ refusal_of (pack_head (ShHeadValue.Slab class used off)) }
     ensures bytes { out.new ≡ head_bytes (pack_head (ShHeadValue.Slab class used off)) out.old }
 {
-    let packed = scripthash_layout::pack8_bytes(ShHeadValue::Slab { class, used, off }, out);
-    refusal_of(packed)
+    number(scripthash_layout::pack8_bytes(ShHeadValue::Slab { class, used, off }, out))
 }
 
 // The eight bytes that store the head of pages, by the offset of the last. Refuses 27.
@@ -122,8 +97,7 @@ pub extern "C" fn ouriscado_pack8_bytes_extent(last: u64, out: &mut [u8; 8]) -> 
     ensures number { result ≡ refusal_of (pack_head (ShHeadValue.Extent last)) }
     ensures bytes { out.new ≡ head_bytes (pack_head (ShHeadValue.Extent last)) out.old }
 {
-    let packed = scripthash_layout::pack8_bytes(ShHeadValue::Extent { last_page: last }, out);
-    refusal_of(packed)
+    number(scripthash_layout::pack8_bytes(ShHeadValue::Extent { last_page: last }, out))
 }
 
 // The kind of a head value, as its number.
@@ -132,13 +106,9 @@ fn kind_of(v: ShHeadValue) -> u8
 {
     match v {
         ShHeadValue::Empty => 0,
-        ShHeadValue::Inline { entry: _, used: _ } => 1,
-        ShHeadValue::Slab {
-            class: _,
-            used: _,
-            off: _,
-        } => 2,
-        ShHeadValue::Extent { last_page: _ } => 3,
+        ShHeadValue::Inline { .. } => 1,
+        ShHeadValue::Slab { .. } => 2,
+        ShHeadValue::Extent { .. } => 3,
     }
 }
 
@@ -148,13 +118,9 @@ fn class_of(v: ShHeadValue) -> u8
 {
     match v {
         ShHeadValue::Empty => 0,
-        ShHeadValue::Inline { entry: _, used: _ } => 0,
-        ShHeadValue::Slab {
-            class,
-            used: _,
-            off: _,
-        } => class,
-        ShHeadValue::Extent { last_page: _ } => 0,
+        ShHeadValue::Inline { .. } => 0,
+        ShHeadValue::Slab { class, .. } => class,
+        ShHeadValue::Extent { .. } => 0,
     }
 }
 
@@ -164,13 +130,9 @@ fn used_of(v: ShHeadValue) -> u16
 {
     match v {
         ShHeadValue::Empty => 0,
-        ShHeadValue::Inline { entry: _, used } => used as u16,
-        ShHeadValue::Slab {
-            class: _,
-            used,
-            off: _,
-        } => used,
-        ShHeadValue::Extent { last_page: _ } => 0,
+        ShHeadValue::Inline { used, .. } => u16::from(used),
+        ShHeadValue::Slab { used, .. } => used,
+        ShHeadValue::Extent { .. } => 0,
     }
 }
 
@@ -180,19 +142,15 @@ fn place_of(v: ShHeadValue) -> u64
 {
     match v {
         ShHeadValue::Empty => 0,
-        ShHeadValue::Inline { entry, used: _ } => entry,
-        ShHeadValue::Slab {
-            class: _,
-            used: _,
-            off,
-        } => off,
+        ShHeadValue::Inline { entry, .. } => entry,
+        ShHeadValue::Slab { off, .. } => off,
         ShHeadValue::Extent { last_page } => last_page,
     }
 }
 
 // Hands out a head value, or zeros where it is refused.
 pub fn put_head(
-    got: Unpacked,
+    got: Result<ShHeadValue, Refusal>,
     kind: &mut u8,
     class: &mut u8,
     used: &mut u16,
@@ -205,14 +163,14 @@ pub fn put_head(
     ensures place { place.new ≡ value_or place_out (unpack_answer got) 0 }
 {
     match got {
-        Unpacked::Refused(number) => {
+        Err(refusal) => {
             *kind = 0;
             *class = 0;
             *used = 0;
             *place = 0;
-            number
+            u32::from(refusal)
         }
-        Unpacked::Head(v) => {
+        Ok(v) => {
             *kind = kind_of(v);
             *class = class_of(v);
             *used = used_of(v);

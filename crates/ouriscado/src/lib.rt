@@ -7,6 +7,7 @@ mod account_book;
 mod account_core;
 mod account_extend;
 mod account_length;
+mod answers;
 mod class;
 mod cut;
 mod free;

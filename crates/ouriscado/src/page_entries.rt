@@ -8,9 +8,9 @@ ghost use Rattle.scripthash_pages.specs.Entries.{write_stream};
 ghost use Rattle.scripthash_pages.specs.Entries.{after_write_stream};
 ghost use Rattle.scripthash_pages.specs.EntryAnswers.{try_answer};
 
-use crate::stream::put_bytes;
-use scripthash_pages::{PageEntries, PageLastFk, PageSlice, TryAppend};
-use scripthash_stream::ScanStream;
+use crate::answers::hand_out;
+use error::Refusal;
+use scripthash_pages::TryAppend;
 
 // How many bytes a page's stream takes, and its last number, 0 where it has none. Refuses 4, 15 to 18, 20 to 23.
 #[unsafe(no_mangle)]
@@ -23,15 +23,18 @@ pub extern "C" fn ouriscado_sh_page_stream_tail(
     ensures taken { taken.new ≡ value_or (λ s. s.taken) (page_scan page.now) 0 }
     ensures last { last.new ≡ value_or last_of (page_scan page.now) 0 }
 {
-    let got = scripthash_pages::sh_page_stream_tail(page);
-    let ScanStream::Scanned { taken: t, last: l } = got else {
-        *taken = 0;
-        *last = 0;
-        return got.refusal();
-    };
-    *taken = t;
-    *last = l;
-    0
+    match scripthash_pages::sh_page_stream_tail(page) {
+        Ok(scanned) => {
+            *taken = scanned.taken;
+            *last = scanned.last;
+            0
+        }
+        Err(refusal) => {
+            *taken = 0;
+            *last = 0;
+            u32::from(refusal)
+        }
+    }
 }
 
 // The last number of a page, 0 where it has none. Refuses 4, 15 to 18, 20 to 23.
@@ -40,13 +43,7 @@ pub extern "C" fn ouriscado_sh_page_last_fk(page: &[u8], last: &mut u64) -> u32
     ensures number { result ≡ refusal_of (page_scan page.now) }
     ensures last { last.new ≡ value_or last_of (page_scan page.now) 0 }
 {
-    let got = scripthash_pages::sh_page_last_fk(page);
-    let PageLastFk::Last(l) = got else {
-        *last = 0;
-        return got.refusal();
-    };
-    *last = l;
-    0
+    hand_out(scripthash_pages::sh_page_last_fk(page), 0, last)
 }
 
 // Reads the numbers of a page into the start of out, and tells how many, and how many of them are padded. Refuses 4, 15 to 18, 20 to 23,
@@ -64,19 +61,18 @@ pub extern "C" fn ouriscado_sh_page_entries_into(
     ensures padded { padded.new
         ≡ value_or (λ _. page_padded page.now) (page_entries (length out.old) page.now) 0 }
 {
-    let got = scripthash_pages::sh_page_entries_into(page, out);
-    let PageEntries::Entries {
-        count: n,
-        padded: p,
-    } = got
-    else {
-        *count = 0;
-        *padded = 0;
-        return got.refusal();
-    };
-    *count = n;
-    *padded = p;
-    0
+    match scripthash_pages::sh_page_entries_into(page, out) {
+        Ok(read) => {
+            *count = read.count;
+            *padded = read.padded;
+            0
+        }
+        Err(refusal) => {
+            *count = 0;
+            *padded = 0;
+            u32::from(refusal)
+        }
+    }
 }
 
 // Reads the numbers of a page into the start of out, and tells how many, the next page's offset, 0 where the page is LAST, and how many of
@@ -97,37 +93,35 @@ pub extern "C" fn ouriscado_sh_page_decode_slice_into(
     ensures padded { padded.new
         ≡ value_or (λ _. page_padded page.now) (page_entries (length out.old) page.now) 0 }
 {
-    let got = scripthash_pages::sh_page_decode_slice_into(page, out);
-    let PageSlice::Decoded {
-        count: n,
-        next: o,
-        padded: p,
-    } = got
-    else {
-        *count = 0;
-        *next = 0;
-        *padded = 0;
-        return got.refusal();
-    };
-    *count = n;
-    *next = o;
-    *padded = p;
-    0
+    match scripthash_pages::sh_page_decode_slice_into(page, out) {
+        Ok(read) => {
+            *count = read.count;
+            *next = read.next;
+            *padded = read.padded;
+            0
+        }
+        Err(refusal) => {
+            *count = 0;
+            *next = 0;
+            *padded = 0;
+            u32::from(refusal)
+        }
+    }
 }
 
 // Hands out whether a number was appended.
-fn put_appended(got: TryAppend, appended: &mut bool) -> u32
+fn put_appended(got: Result<TryAppend, Refusal>, appended: &mut bool) -> u32
     ensures number { result ≡ refusal_of (try_answer got) }
     ensures appended { appended.new ≡ value_or (λ x. x) (try_answer got) false }
 {
     *appended = false;
     match got {
-        TryAppend::Appended => {
+        Ok(TryAppend::Appended) => {
             *appended = true;
             0
         }
-        TryAppend::Full => 0,
-        TryAppend::Refused(number) => number,
+        Ok(TryAppend::Full) => 0,
+        Err(refusal) => u32::from(refusal),
     }
 }
 
@@ -138,8 +132,7 @@ pub extern "C" fn ouriscado_sh_page_try_append(page: &mut [u8], fk: u64, appende
     ensures bytes { page.new ≡ after_append page.old (append_spot page.old fk) }
     ensures appended { appended.new ≡ value_or has_spot (append_spot page.old fk) false }
 {
-    let got = scripthash_pages::sh_page_try_append(page, fk);
-    put_appended(got, appended)
+    put_appended(scripthash_pages::sh_page_try_append(page, fk), appended)
 }
 
 // Writes the stream of a rising list to a page whose version is set, with its count, and tells its length. Refuses 4, 10, 12, 13, 32, 33.
@@ -154,6 +147,5 @@ pub extern "C" fn ouriscado_sh_page_write_stream(
         ≡ after_write_stream page.old fks.now (write_stream page.old fks.now) }
     ensures len { len.new ≡ value_or (λ x. x) (write_stream page.old fks.now) 0 }
 {
-    let got = scripthash_pages::sh_page_write_stream(page, fks);
-    put_bytes(got, len)
+    hand_out(scripthash_pages::sh_page_write_stream(page, fks), 0, len)
 }

@@ -4,8 +4,7 @@ ghost use Rattle.error.specs.Refusal.{refusal_of, value_or};
 ghost use Rattle.scripthash_stream.specs.Stream.{after_decode};
 ghost use Rattle.scripthash_slabs.specs.Slab.{encode_slab, after_encode_slab, slab_padded, decode_slab};
 
-use crate::stream::put_bytes;
-use scripthash_slabs::SlabPayload;
+use crate::answers::hand_out;
 
 // Writes the payload of a rising list to the start of out, and tells its length. Refuses 10 to 13, 32, 33.
 #[unsafe(no_mangle)]
@@ -19,8 +18,7 @@ pub extern "C" fn ouriscado_encode_slab_payload_into(
         ≡ after_encode_slab out.old fks.now (encode_slab (length out.old) fks.now) }
     ensures len { len.new ≡ value_or (λ x. x) (encode_slab (length out.old) fks.now) 0 }
 {
-    let got = scripthash_slabs::encode_slab_payload_into(out, fks);
-    put_bytes(got, len)
+    hand_out(scripthash_slabs::encode_slab_payload_into(out, fks), 0, len)
 }
 
 // Reads the payload at the start of buf into the start of out, and tells how many numbers it has, how many bytes it takes and how many of
@@ -41,20 +39,18 @@ pub extern "C" fn ouriscado_decode_slab_payload_into(
     ensures padded { padded.new
         ≡ value_or (λ _. slab_padded buf.now) (decode_slab (length out.old) buf.now) 0 }
 {
-    let got = scripthash_slabs::decode_slab_payload_into(buf, out);
-    let SlabPayload::Numbers {
-        used: u,
-        len: l,
-        padded: p,
-    } = got
-    else {
-        *used = 0;
-        *len = 0;
-        *padded = 0;
-        return got.refusal();
-    };
-    *used = u;
-    *len = l;
-    *padded = p;
-    0
+    match scripthash_slabs::decode_slab_payload_into(buf, out) {
+        Ok(slab) => {
+            *used = slab.used;
+            *len = slab.len;
+            *padded = slab.padded;
+            0
+        }
+        Err(refusal) => {
+            *used = 0;
+            *len = 0;
+            *padded = 0;
+            u32::from(refusal)
+        }
+    }
 }

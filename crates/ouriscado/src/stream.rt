@@ -2,46 +2,28 @@
 ghost use Rattle.std.specs.Prelude.{◌≡◌, length};
 ghost use Rattle.error.specs.Refusal.{refusal_of, value_or};
 ghost use Rattle.scripthash_stream.specs.Stream.{encode_stream, after_encode, padded_in, decode_stream, after_decode};
-ghost use Rattle.scripthash_stream.specs.Answers.{bytes_answer, stream_read_answer};
+ghost use Rattle.scripthash_stream.specs.Answers.{stream_read_answer};
 
-use scripthash_stream::{StreamBytes, StreamRead};
-
-// Hands out how many bytes a stream takes.
-pub fn put_bytes(got: StreamBytes, len: &mut usize) -> u32
-    ensures number { result ≡ refusal_of (bytes_answer got) }
-    ensures len { len.new ≡ value_or (λ x. x) (bytes_answer got) 0 }
-{
-    match got {
-        StreamBytes::Bytes(n) => {
-            *len = n;
-            0
-        }
-        StreamBytes::Refused(number) => {
-            *len = 0;
-            number
-        }
-    }
-}
+use crate::answers::hand_out;
+use error::Refusal;
+use scripthash_stream::StreamRead;
 
 // Hands out how many bytes a stream takes that was read, and how many of its numbers are padded.
-fn put_read(got: StreamRead, taken: &mut usize, padded: &mut usize) -> u32
+fn put_read(got: Result<StreamRead, Refusal>, taken: &mut usize, padded: &mut usize) -> u32
     ensures number { result ≡ refusal_of (stream_read_answer got) }
     ensures taken { taken.new ≡ value_or (λ x. x.taken) (stream_read_answer got) 0 }
     ensures padded { padded.new ≡ value_or (λ x. x.padded) (stream_read_answer got) 0 }
 {
     match got {
-        StreamRead::Read {
-            taken: t,
-            padded: p,
-        } => {
-            *taken = t;
-            *padded = p;
+        Ok(read) => {
+            *taken = read.taken;
+            *padded = read.padded;
             0
         }
-        StreamRead::Refused(number) => {
+        Err(refusal) => {
             *taken = 0;
             *padded = 0;
-            number
+            u32::from(refusal)
         }
     }
 }
@@ -58,8 +40,11 @@ pub extern "C" fn ouriscado_encode_fk_delta_stream_into(
         ≡ after_encode out.old fks.now (encode_stream (length out.old) fks.now) }
     ensures len { len.new ≡ value_or (λ x. x) (encode_stream (length out.old) fks.now) 0 }
 {
-    let got = scripthash_stream::encode_fk_delta_stream_into(out, fks);
-    put_bytes(got, len)
+    hand_out(
+        scripthash_stream::encode_fk_delta_stream_into(out, fks),
+        0,
+        len,
+    )
 }
 
 // Reads a stream of n numbers at the start of buf into the start of out, and tells how many bytes it takes and how many of the numbers are
@@ -79,6 +64,9 @@ pub extern "C" fn ouriscado_decode_fk_delta_stream_into(
     ensures padded { padded.new
         ≡ value_or (λ _. padded_in n buf.now) (decode_stream (length out.old) n buf.now) 0 }
 {
-    let got = scripthash_scan::decode_fk_delta_stream_into(buf, n, out);
-    put_read(got, taken, padded)
+    put_read(
+        scripthash_scan::decode_fk_delta_stream_into(buf, n, out),
+        taken,
+        padded,
+    )
 }

@@ -3,7 +3,7 @@ ghost use Rattle.std.specs.Prelude.{false, not, ◌≡◌, length};
 ghost use Rattle.error.specs.Refusal.{refusal_of, value_or};
 ghost use Rattle.compact.specs.Uleb128.{read_uleb, padded, uleb_len, write_uleb, after_write};
 
-use compact::WriteUleb128;
+use crate::answers::hand_out;
 
 // The length of the shortest form of n, in bytes.
 #[unsafe(no_mangle)]
@@ -27,10 +27,20 @@ pub extern "C" fn ouriscado_read_uleb128(
     ensures len { len.new ≡ value_or (λ x. x.len) (read_uleb buf.now) 0 }
     ensures shortest { shortest.new ≡ value_or (λ x. not (padded x)) (read_uleb buf.now) false }
 {
-    *value = 0;
-    *len = 0;
-    *shortest = false;
-    compact::read_form(buf, value, len, shortest)
+    match compact::read_uleb128(buf) {
+        Ok(read) => {
+            *value = read.value;
+            *len = read.len;
+            *shortest = read.shortest;
+            0
+        }
+        Err(refusal) => {
+            *value = 0;
+            *len = 0;
+            *shortest = false;
+            u32::from(refusal)
+        }
+    }
 }
 
 // Writes the shortest form of n to the start of dst, and tells its length. Refuses 33.
@@ -40,11 +50,5 @@ pub extern "C" fn ouriscado_write_uleb128_into(dst: &mut [u8], n: u64, len: &mut
     ensures bytes { dst.new ≡ after_write dst.old n }
     ensures len { len.new ≡ value_or (λ x. x) (write_uleb (length dst.old) n) 0 }
 {
-    let got = compact::write_uleb128_into(dst, n);
-    let WriteUleb128::Written(w) = got else {
-        *len = 0;
-        return got.refusal();
-    };
-    *len = w;
-    0
+    hand_out(compact::write_uleb128_into(dst, n), 0, len)
 }

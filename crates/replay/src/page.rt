@@ -1,8 +1,8 @@
 // The functions on pages. The buffer of an answer is the page.
-use crate::call::{BEFORE, UNKNOWN, tells, tells_two, untold};
+use crate::call::{Answer, BEFORE, tells, tells_two, untold};
 
 // Reads a link.
-fn read_packed(page: &[u8]) -> [u64; 5] {
+fn read_packed(page: &[u8]) -> Answer {
     let mut last = true;
     let mut off = BEFORE;
     let number = ouriscado::ouriscado_sh_page_read_packed(page, &mut last, &mut off);
@@ -10,14 +10,14 @@ fn read_packed(page: &[u8]) -> [u64; 5] {
 }
 
 // Asks whether a page is LAST.
-fn is_last(page: &[u8]) -> [u64; 5] {
+fn is_last(page: &[u8]) -> Answer {
     let mut last = true;
     let number = ouriscado::ouriscado_sh_page_is_last(page, &mut last);
     tells(last as u64, number)
 }
 
 // Asks for an offset: the first page's, the next one's, or the last number.
-fn offset(which: u64, page: &[u8]) -> [u64; 5] {
+fn offset(which: u64, page: &[u8]) -> Answer {
     let mut off = BEFORE;
     let number = match which {
         25 => ouriscado::ouriscado_sh_page_first_off(page, &mut off),
@@ -28,7 +28,7 @@ fn offset(which: u64, page: &[u8]) -> [u64; 5] {
 }
 
 // Asks for a count: where the stream starts, the capacity, or the numbers.
-fn count(which: u64, page: &[u8]) -> [u64; 5] {
+fn count(which: u64, page: &[u8]) -> Answer {
     let mut n = BEFORE as usize;
     let number = match which {
         30 => ouriscado::ouriscado_sh_page_stream_off(page, &mut n),
@@ -39,7 +39,7 @@ fn count(which: u64, page: &[u8]) -> [u64; 5] {
 }
 
 // Asks for the extent.
-fn extent(page: &[u8]) -> [u64; 5] {
+fn extent(page: &[u8]) -> Answer {
     let mut base = BEFORE;
     let mut n = BEFORE as u32;
     let number = ouriscado::ouriscado_sh_page_extent(page, &mut base, &mut n);
@@ -47,14 +47,14 @@ fn extent(page: &[u8]) -> [u64; 5] {
 }
 
 // Asks for creates.
-fn extent_creates(page: &[u8]) -> [u64; 5] {
+fn extent_creates(page: &[u8]) -> Answer {
     let mut n = BEFORE as u32;
     let number = ouriscado::ouriscado_sh_page_extent_creates(page, &mut n);
     tells(n as u64, number)
 }
 
 // Scans a stream to its end.
-fn stream_tail(page: &[u8]) -> [u64; 5] {
+fn stream_tail(page: &[u8]) -> Answer {
     let mut taken = BEFORE as usize;
     let mut last = BEFORE;
     let number = ouriscado::ouriscado_sh_page_stream_tail(page, &mut taken, &mut last);
@@ -62,7 +62,7 @@ fn stream_tail(page: &[u8]) -> [u64; 5] {
 }
 
 // Reads the numbers of a page. The source doesn't count padded ones, here or below, so that they aren't compared.
-pub fn entries_into(page: &[u8], list: &mut [u64]) -> [u64; 5] {
+pub fn entries_into(page: &[u8], list: &mut [u64]) -> Answer {
     let mut n = BEFORE as usize;
     let mut padded = BEFORE as usize;
     let number = ouriscado::ouriscado_sh_page_entries_into(page, list, &mut n, &mut padded);
@@ -70,7 +70,7 @@ pub fn entries_into(page: &[u8], list: &mut [u64]) -> [u64; 5] {
 }
 
 // Reads the numbers of a page, and the next page's offset.
-pub fn decode_slice_into(page: &[u8], list: &mut [u64]) -> [u64; 5] {
+pub fn decode_slice_into(page: &[u8], list: &mut [u64]) -> Answer {
     let mut n = BEFORE as usize;
     let mut next = BEFORE;
     let mut padded = BEFORE as usize;
@@ -85,14 +85,14 @@ pub fn decode_slice_into(page: &[u8], list: &mut [u64]) -> [u64; 5] {
 }
 
 // Appends a number.
-fn try_append(page: &mut [u8], fk: u64) -> [u64; 5] {
+fn try_append(page: &mut [u8], fk: u64) -> Answer {
     let mut appended = true;
     let number = ouriscado::ouriscado_sh_page_try_append(page, fk, &mut appended);
     tells(appended as u64, number)
 }
 
 // Writes a stream.
-fn write_stream(page: &mut [u8], list: &[u64]) -> [u64; 5] {
+fn write_stream(page: &mut [u8], list: &[u64]) -> Answer {
     let mut len = BEFORE as usize;
     let number = ouriscado::ouriscado_sh_page_write_stream(page, list, &mut len);
     tells(len as u64, number)
@@ -117,23 +117,23 @@ pub fn set(function: u64, a: u64, b: u64, page: &mut [u8]) -> u32 {
     }
 }
 
-// Reads something of a page.
-pub fn read(function: u64, page: &[u8]) -> [u64; 5] {
+// Reads something of a page; nothing where there is no such function.
+pub fn read(function: u64, page: &[u8]) -> Option<Answer> {
     match function {
-        23 => read_packed(page),
-        24 => is_last(page),
-        25 | 26 | 41 => offset(function, page),
-        30 | 31 | 36 => count(function, page),
-        32 => extent(page),
-        34 => extent_creates(page),
-        38 => untold(ouriscado::ouriscado_sh_page_require_delta(page)),
-        40 => stream_tail(page),
-        _ => untold(UNKNOWN),
+        23 => Some(read_packed(page)),
+        24 => Some(is_last(page)),
+        25 | 26 | 41 => Some(offset(function, page)),
+        30 | 31 | 36 => Some(count(function, page)),
+        32 => Some(extent(page)),
+        34 => Some(extent_creates(page)),
+        38 => Some(untold(ouriscado::ouriscado_sh_page_require_delta(page))),
+        40 => Some(stream_tail(page)),
+        _ => None,
     }
 }
 
 // Appends to a page, or writes a list to it.
-pub fn write(function: u64, given: [u64; 4], page: &mut [u8], list: &[u64]) -> [u64; 5] {
+pub fn write(function: u64, given: [u64; 4], page: &mut [u8], list: &[u64]) -> Answer {
     match function {
         44 => try_append(page, given[0]),
         45 => write_stream(page, list),

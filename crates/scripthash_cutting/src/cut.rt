@@ -1,7 +1,6 @@
 // Cutting a list into the parts that pages hold. A part's stream is its first number, then the differences; a difference to a larger number
 // counts as 0. Each part takes as many numbers as its page has room for, and the last page has less room than the others.
-ghost use Rattle.std.specs.Prelude.{◌+◌, ◌-◌, ◌≤◌, ◌<◌, ◌≡◌, length, drop};
-ghost use Rattle.error.specs.Refusal.{refusal_of};
+ghost use Rattle.std.specs.Prelude.{◌+◌, ◌≤◌, ◌<◌, ◌≡◌, length, drop};
 ghost use Rattle.buffer.specs.Bytes.{overwrite};
 ghost use Rattle.scripthash_cutting.specs.Cutting.{page_room, last_page_room, cutting_for, ranges_from, chunk_ranges, after_chunk_ranges};
 ghost use Rattle.scripthash_cutting.specs.Cutting.{split_last, after_split_last};
@@ -19,25 +18,23 @@ const SH_PAGE_EXTENT_STREAM_MAX: usize = SH_PAGE_SIZE - 24;
 // Every part but the last two holds at least so many numbers, since none takes more than 10 bytes.
 const SH_PAGE_MIN_FKS: usize = 407;
 
-// A part of a list: the index of its first number, and the one behind its last.
+// A part of a list: the index of its first number, and the one behind its last. An array, since a list of them is lent from C.
 pub type ChunkRange = [usize; 2];
 
-// What cutting answers: how many parts there are, or a refusal.
+// How many bytes a page has for a stream: at least those of a last page, and at most those of a page without an extent.
 #[derive(Clone, Copy)]
-pub enum ChunkRanges {
-    Parts(usize),
-    Refused(Refusal),
+struct PageRoom {
+    bytes: usize,
+    ghost of_a_page: { (last_page_room ≤ bytes) × (bytes ≤ page_room) },
 }
 
-impl ChunkRanges {
-    // The refusal's number, and 0 of a count.
-    pub fn refusal(self) -> Refusal
-        ensures { result ≡ refusal_of (chunk_answer self) }
+impl PageRoom {
+    // A room of so many bytes.
+    fn new(bytes: usize) -> PageRoom
+        requires { (last_page_room ≤ bytes) × (bytes ≤ page_room) }
+        ensures { result.bytes ≡ bytes }
     {
-        match self {
-            ChunkRanges::Parts(_) => 0,
-            ChunkRanges::Refused(number) => number,
-        }
+        PageRoom { bytes }
     }
 }
 
@@ -48,44 +45,36 @@ struct Reach {
     used: usize,
 }
 
-// The difference of two numbers, 0 where the second is larger.
-fn saturating_sub(a: u64, b: u64) -> u64
-    ensures { result ≡ a - b }
+// Goes on with a part of `used` bytes from index `from` while the numbers fit into a room. A difference to a larger number counts as 0.
+fn extend_part(fks: &[u64], from: usize, used: usize, room: PageRoom) -> Reach
+    requires { (0 < from) × (from ≤ length fks.now) × (used ≤ room.bytes) }
+    ensures { Reached fks.now from used room.bytes result.end result.used }
 {
-    if a < b { 0 } else { a - b }
-}
-
-// Goes on with a part of `used` bytes from index `from` while the numbers fit into `room` bytes.
-fn extend_part(fks: &[u64], from: usize, used: usize, room: usize) -> Reach
-    requires { (0 < from) × (from ≤ length fks.now) × (used ≤ room) × (room ≤ page_room) }
-    ensures { Reached fks.now from used room result.end result.used }
-{
-    let mut i = from;
     let mut bytes = used;
-    while i < fks.len() {
-        let more = bytes + uleb128_len(saturating_sub(fks[i], fks[i - 1]));
-        if room < more {
+    for i in from..fks.len() {
+        let more = bytes + uleb128_len(fks[i].saturating_sub(fks[i - 1]));
+        if room.bytes < more {
             return Reach {
                 end: i,
                 used: bytes,
             };
         }
         bytes = more;
-        i += 1;
     }
     Reach {
-        end: i,
+        end: fks.len(),
         used: bytes,
     }
 }
 
-// The end of the part that starts at `start`: as far as `room` goes, or as a last page has room where that reaches the list's end.
-fn part_end(fks: &[u64], start: usize, room: usize) -> usize
-    requires { (start < length fks.now) × (last_page_room ≤ room) × (room ≤ page_room) }
-    ensures { result ≡ start + next_part last_page_room room (drop start fks.now) }
+// The end of the part that starts at `start`: as far as the room goes, or as a last page has room where that reaches the list's end.
+fn part_end(fks: &[u64], start: usize, room: PageRoom) -> usize
+    requires { start < length fks.now }
+    ensures { result ≡ start + next_part last_page_room room.bytes (drop start fks.now) }
 {
     let first = uleb128_len(fks[start]);
-    let last = extend_part(fks, start + 1, first, SH_PAGE_EXTENT_STREAM_MAX);
+    let last_room = PageRoom::new(SH_PAGE_EXTENT_STREAM_MAX);
+    let last = extend_part(fks, start + 1, first, last_room);
     let end = last.end;
     let whole = extend_part(fks, end, last.used, room);
     if whole.end == fks.len() {
@@ -95,12 +84,13 @@ fn part_end(fks: &[u64], start: usize, room: usize) -> usize
 }
 
 // Counts the parts from index `from` on.
-fn count_parts(fks: &[u64], from: usize, room: usize) -> usize
-    requires { (from ≤ length fks.now) × (last_page_room ≤ room) × (room ≤ page_room) }
-    ensures { result ≡ length (cutting_for last_page_room room (drop from fks.now)) }
+fn count_parts(fks: &[u64], from: usize, room: PageRoom) -> usize
+    requires { from ≤ length fks.now }
+    ensures { result ≡ length (cutting_for last_page_room room.bytes (drop from fks.now)) }
 {
     let mut start = from;
     let mut count: usize = 0;
+    // The numbers decide how far a part goes, so no range counts the parts.
     while start < fks.len() {
         start = part_end(fks, start, room);
         count += 1;
@@ -109,15 +99,22 @@ fn count_parts(fks: &[u64], from: usize, room: usize) -> usize
 }
 
 // Writes the ranges of the parts from index `from` on to `out` from index `at` on, which has room for them. Tells the index behind them.
-fn write_ranges(fks: &[u64], from: usize, room: usize, out: &mut [ChunkRange], at: usize) -> usize
-    requires { (from ≤ length fks.now) × (last_page_room ≤ room) × (room ≤ page_room)
-        × (at + length (cutting_for last_page_room room (drop from fks.now)) ≤ length out.old) }
-    ensures count { result ≡ at + length (cutting_for last_page_room room (drop from fks.now)) }
+fn write_ranges(
+    fks: &[u64],
+    from: usize,
+    room: PageRoom,
+    out: &mut [ChunkRange],
+    at: usize,
+) -> usize
+    requires { (from ≤ length fks.now)
+        × (at + length (cutting_for last_page_room room.bytes (drop from fks.now)) ≤ length out.old) }
+    ensures count { result ≡ at + length (cutting_for last_page_room room.bytes (drop from fks.now)) }
     ensures ranges { out.new
-        ≡ overwrite out.old at (ranges_from from (cutting_for last_page_room room (drop from fks.now))) }
+        ≡ overwrite out.old at (ranges_from from (cutting_for last_page_room room.bytes (drop from fks.now))) }
 {
     let mut start = from;
     let mut count = at;
+    // The numbers decide how far a part goes, so no range counts the parts.
     while start < fks.len() {
         let end = part_end(fks, start, room);
         let range = [start, end];
@@ -130,27 +127,31 @@ fn write_ranges(fks: &[u64], from: usize, room: usize, out: &mut [ChunkRange], a
 
 // Cuts the numbers from index `from` on for pages with a room, and writes their ranges to `out` from index `at` on. A lent list that is too
 // short is left as it is. One that is long enough for any numbers needs no count beforehand.
-fn cut_from(fks: &[u64], from: usize, room: usize, out: &mut [ChunkRange], at: usize) -> ChunkRanges
-    requires { (from ≤ length fks.now) × (last_page_room ≤ room) × (room ≤ page_room) × (at ≤ length out.old) }
-    ensures answer { chunk_answer result ≡ cut_from room fks.now from (length out.old) at }
-    ensures list { out.new ≡ after_cut_from room fks.now from out.old at }
+fn cut_from(
+    fks: &[u64],
+    from: usize,
+    room: PageRoom,
+    out: &mut [ChunkRange],
+    at: usize,
+) -> Result<usize, Refusal>
+    requires { (from ≤ length fks.now) × (at ≤ length out.old) }
+    ensures answer { chunk_answer result ≡ cut_from room.bytes fks.now from (length out.old) at }
+    ensures list { out.new ≡ after_cut_from room.bytes fks.now from out.old at }
 {
     let free = out.len() - at;
-    if free < (fks.len() - from) / SH_PAGE_MIN_FKS + 2 {
-        if free < count_parts(fks, from, room) {
-            return ChunkRanges::Refused(error::LIST_TOO_SHORT);
-        }
+    if free < (fks.len() - from) / SH_PAGE_MIN_FKS + 2 && free < count_parts(fks, from, room) {
+        return Err(Refusal::ListTooShort);
     }
     let count = write_ranges(fks, from, room, out, at);
-    ChunkRanges::Parts(count)
+    Ok(count)
 }
 
 // Cuts `fks` into parts, and writes their ranges to the start of `out`. A lent list that is too short is left as it is.
-pub fn sh_page_chunk_ranges(fks: &[u64], out: &mut [ChunkRange]) -> ChunkRanges
+pub fn sh_page_chunk_ranges(fks: &[u64], out: &mut [ChunkRange]) -> Result<usize, Refusal>
     ensures answer { chunk_answer result ≡ chunk_ranges (length out.old) fks.now }
     ensures list { out.new ≡ after_chunk_ranges out.old fks.now }
 {
-    cut_from(fks, 0, SH_PAGE_STREAM_MAX, out, 0)
+    cut_from(fks, 0, PageRoom::new(SH_PAGE_STREAM_MAX), out, 0)
 }
 
 // Cuts the last of the first `count` ranges of `chunks` again, so that each of its parts fits a last page, and tells how many ranges there
@@ -159,25 +160,24 @@ pub fn split_last_chunk_for_extent(
     fks: &[u64],
     chunks: &mut [ChunkRange],
     count: usize,
-) -> ChunkRanges
+) -> Result<usize, Refusal>
     ensures answer { chunk_answer result ≡ split_last fks.now chunks.old count }
     ensures list { chunks.new ≡ after_split_last fks.now chunks.old count }
 {
     if chunks.len() < count {
-        return ChunkRanges::Refused(error::LIST_TOO_SHORT);
+        return Err(Refusal::ListTooShort);
     }
     if count == 0 {
-        return ChunkRanges::Parts(0);
+        return Ok(0);
     }
-    let last = chunks[count - 1];
-    let start = last[0];
-    let end = last[1];
+    let [start, end] = chunks[count - 1];
     if end <= start {
-        return ChunkRanges::Parts(count);
+        return Ok(count);
     }
     if fks.len() < end {
-        return ChunkRanges::Parts(count);
+        return Ok(count);
     }
     let upto = &fks[..end];
-    cut_from(upto, start, SH_PAGE_EXTENT_STREAM_MAX, chunks, count - 1)
+    let room = PageRoom::new(SH_PAGE_EXTENT_STREAM_MAX);
+    cut_from(upto, start, room, chunks, count - 1)
 }

@@ -3,4 +3,4 @@
 
 mod cut;
 
-pub use cut::{ChunkRange, ChunkRanges, sh_page_chunk_ranges, split_last_chunk_for_extent};
+pub use cut::{ChunkRange, sh_page_chunk_ranges, split_last_chunk_for_extent};

@@ -1,21 +1,11 @@
--- What the answers about a page's fields mean: a refusal's number (FORMAT, Refusals) or values for each of their cases.
-use Rattle.std.specs.Prelude.{ℕ, Bool}
-use Rattle.std.proofs.Math.Option.{Option, none, some}
-use Rattle.error.specs.Refusal.{Answer, accepted, refused}
+-- What the answers about a page's fields mean: a refusal's number (FORMAT, Refusals) or what was told.
+use Rattle.std.specs.Prelude.{ℕ, Bool, Option, Result}
+use Rattle.std.proofs.Math.Option as maybe
+use Rattle.error.specs.Refusal.{Answer}
+use Rattle.error.specs.Answers.{result_answer, told_by}
+use Rattle.error.specs.declared.Refusal.{Refusal}
 use Rattle.scripthash_fields.specs.declared.answers.PageLink.{PageLink}
-use Rattle.scripthash_fields.specs.declared.answers.PageLink.TheVariants.{Link as LinkIs, Refused as NoLink}
-use Rattle.scripthash_fields.specs.declared.answers.PageLast.{PageLast}
-use Rattle.scripthash_fields.specs.declared.answers.PageLast.TheVariants.{Last, Refused as NoLast}
-use Rattle.scripthash_fields.specs.declared.answers.PageOffset.{PageOffset}
-use Rattle.scripthash_fields.specs.declared.answers.PageOffset.TheVariants.{Offset, Refused as NoOffset}
 use Rattle.scripthash_fields.specs.declared.answers.PageExtent.{PageExtent}
-use Rattle.scripthash_fields.specs.declared.answers.PageExtent.TheVariants.{Extent as ExtentIs, Nothing, Refused as NoExtent}
-use Rattle.scripthash_fields.specs.declared.answers.PageCreates.{PageCreates}
-use Rattle.scripthash_fields.specs.declared.answers.PageCreates.TheVariants.{Creates, Refused as NoCreates}
-use Rattle.scripthash_fields.specs.declared.answers.PageCount.{PageCount}
-use Rattle.scripthash_fields.specs.declared.answers.PageCount.TheVariants.{Count, Refused as NoCount}
-use Rattle.scripthash_fields.specs.declared.answers.PageDone.{PageDone}
-use Rattle.scripthash_fields.specs.declared.answers.PageDone.TheVariants.{Done, Refused as NotDone}
 
 -- What a link says: LAST or not, and the offset of the page that it names.
 pub record Link : Type 0 where
@@ -23,19 +13,16 @@ pub record Link : Type 0 where
   pub off : ℕ
 
 -- The answer of `sh_page_read_packed`.
-abbrev pub link_answer : PageLink → Answer Link
-link_answer (LinkIs last off) = accepted (record { last = last; off = off })
-link_answer (NoLink number) = refused number
+abbrev pub link_answer : Result PageLink Refusal → Answer Link
+link_answer = result_answer (λ link. record { last = link.last; off = link.off })
 
 -- The answer of `sh_page_is_last`.
-abbrev pub last_answer : PageLast → Answer Bool
-last_answer (Last last) = accepted last
-last_answer (NoLast number) = refused number
+abbrev pub last_answer : Result Bool Refusal → Answer Bool
+last_answer = result_answer (λ last. last)
 
 -- The answer of `sh_page_first_off` and `sh_page_next`.
-abbrev pub offset_answer : PageOffset → Answer ℕ
-offset_answer (Offset off) = accepted off
-offset_answer (NoOffset number) = refused number
+abbrev pub offset_answer : Result ℕ Refusal → Answer ℕ
+offset_answer = result_answer (λ off. off)
 
 -- An extent: its base, and how many pages it has.
 pub record Extent : Type 0 where
@@ -43,22 +30,17 @@ pub record Extent : Type 0 where
   pub count : ℕ
 
 -- The answer of `sh_page_extent`.
-abbrev pub extent_answer : PageExtent → Answer (Option Extent)
-extent_answer (ExtentIs base count) = accepted (some (record { base = base; count = count }))
-extent_answer Nothing = accepted none
-extent_answer (NoExtent number) = refused number
+abbrev pub extent_answer : Result (Option PageExtent) Refusal → Answer (maybe.Option Extent)
+extent_answer = result_answer (told_by (λ extent. record { base = extent.base; count = extent.n }))
 
 -- The answer of `sh_page_extent_creates`.
-abbrev pub creates_answer : PageCreates → Answer ℕ
-creates_answer (Creates n) = accepted n
-creates_answer (NoCreates number) = refused number
+abbrev pub creates_answer : Result ℕ Refusal → Answer ℕ
+creates_answer = result_answer (λ n. n)
 
 -- The answer of `sh_page_n_fks`, `sh_page_stream_off` and `sh_page_stream_cap`.
-abbrev pub count_answer : PageCount → Answer ℕ
-count_answer (Count n) = accepted n
-count_answer (NoCount number) = refused number
+abbrev pub count_answer : Result ℕ Refusal → Answer ℕ
+count_answer = result_answer (λ n. n)
 
 -- The answer of `sh_page_require_delta` and of calls that set.
-abbrev pub done_answer : PageDone → Answer (Unit {0})
-done_answer Done = accepted tt
-done_answer (NotDone number) = refused number
+abbrev pub done_answer : Result (Unit {0}) Refusal → Answer (Unit {0})
+done_answer = result_answer (λ done. tt)

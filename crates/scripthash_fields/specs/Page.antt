@@ -90,6 +90,10 @@ link_to last off = off / page_size * 2 + cond last 1 0
 abbrev pub on_page : {A : Type 0} → List ℕ → Answer A → Answer A
 on_page page after = refuse_if (not (eqb (length page) page_size)) page_length after
 
+-- Whether a buffer has the length of a page.
+abbrev pub page_whole : List ℕ → Answer (Unit {0})
+page_whole page = on_page page (accepted tt)
+
 -- An offset that a link can name, or its refusal.
 abbrev pub on_link : {A : Type 0} → ℕ → Answer A → Answer A
 on_link off after = refuse_if (not (eqb (off % page_size) 0)) link_unaligned (refuse_if (leb (2 ^ 39) (off / page_size)) link_too_large after)

@@ -1,11 +1,13 @@
 // A page's fields: version, count, link, and in version 2 the extent and creates. Here are the functions that others over pages use.
-ghost use Rattle.std.specs.Prelude.{◌≡◌, ◌&&◌, ◌||◌, ◌<◌, ◌^◌, eqb, length, replicate};
+ghost use Rattle.std.specs.Prelude.{◌≡◌, ◌&&◌, ◌||◌, ◌-◌, ◌<◌, ◌≤◌, ◌^◌, ltb, eqb, IfOk, length};
+ghost use Rattle.error.specs.Refusal.{accepted, refuse_if, count_above_capacity};
 ghost use Rattle.scripthash_layout.specs.Sizes.{page_size};
-ghost use Rattle.scripthash_fields.specs.Page.{version_of, link_of, next_off, stream_off, link_to, link_named, extent_named};
-ghost use Rattle.scripthash_fields.specs.Fields.{read_link, first_off, require_delta};
-ghost use Rattle.scripthash_fields.specs.FieldAnswers.{link_answer, offset_answer, done_answer};
+ghost use Rattle.scripthash_fields.specs.Page.{page_whole, version_of, names_extent, link_of, is_last_link, link_offset, next_off, stream_off, link_to, link_named, extent_named};
+ghost use Rattle.scripthash_fields.specs.Fields.{read_link, first_off, n_fks, require_delta};
+ghost use Rattle.scripthash_fields.specs.FieldAnswers.{link_answer, offset_answer, count_answer, done_answer};
 
-use crate::answers::{PageDone, PageLink, PageOffset};
+use crate::answers::PageLink;
+use error::Refusal;
 use scripthash_layout::{SH_PAGE_BYTES, SH_PAGE_SIZE};
 
 // Where the version stands.
@@ -35,12 +37,33 @@ const SH_PAGE_LINK_UNIT: u64 = 1 << 24;
 // What an offset's remainder counts for once its bits are turned by twelve, so that it stands above the index.
 const SH_PAGE_TURN: u64 = 1 << 52;
 
-// A page's version.
+// Passes a buffer that has the length of a page.
+#[tactic(auto, unfolding(error::specs::Refusal::refuse_if))]
+pub fn whole_page(page: &[u8]) -> Result<(), Refusal>
+    ensures whole { IfOk result (λ done. length page.now ≡ page_size) }
+    ensures answer { done_answer result ≡ page_whole page.now }
+{
+    if page.len() != SH_PAGE_SIZE {
+        return Err(Refusal::PageLength);
+    }
+    Ok(())
+}
+
+// A page's version. It is a stored byte, of which FORMAT leaves most undefined, so it stays a number.
+#[tactic(auto, using(crate::proofs::LawsPage::field_byte))]
 pub fn version_of(page: &[u8]) -> u8
     requires { length page.now ≡ page_size }
     ensures { result ≡ version_of page.now }
 {
     page[SH_PAGE_OFF_VER]
+}
+
+// Whether a page names an extent.
+pub fn names_extent(page: &[u8]) -> bool
+    requires { length page.now ≡ page_size }
+    ensures { result ≡ names_extent page.now }
+{
+    version_of(page) == SH_PAGE_EXTENT_VER
 }
 
 // A page's link, as it stands: less than 2^40. One load has it with the version and the count.
@@ -52,23 +75,33 @@ pub fn link_of(page: &[u8]) -> u64
     buffer::get_u64(page, SH_PAGE_OFF_VER) / SH_PAGE_LINK_UNIT
 }
 
+// What a page's link says.
+pub fn page_link(page: &[u8]) -> PageLink
+    requires { length page.now ≡ page_size }
+    ensures last { result.last ≡ is_last_link (link_of page.now) }
+    ensures off { result.off ≡ link_offset (link_of page.now) }
+{
+    let link = link_of(page);
+    PageLink {
+        last: link % 2 == 1,
+        off: link / 2 * SH_PAGE_BYTES,
+    }
+}
+
 // The offset of the page behind a page, 0 where the page is LAST.
+#[tactic(auto, unfolding(crate::specs::Page::next_off))]
 pub fn next_off(page: &[u8]) -> u64
     requires { length page.now ≡ page_size }
     ensures { result ≡ next_off page.now }
 {
-    let link = link_of(page);
-    if link % 2 == 1 {
-        return 0;
-    }
-    link / 2 * SH_PAGE_BYTES
+    page_link(page).next()
 }
 
 // The link that names the page at an offset, LAST or not.
 pub fn link_to(last: bool, off: u64) -> u64
     ensures { result ≡ link_to last off }
 {
-    off / SH_PAGE_BYTES * 2 + last as u64
+    off / SH_PAGE_BYTES * 2 + u64::from(last)
 }
 
 // Where the stream of a page starts.
@@ -76,118 +109,114 @@ pub fn stream_off(page: &[u8]) -> usize
     requires { length page.now ≡ page_size }
     ensures { result ≡ stream_off page.now }
 {
-    if version_of(page) == SH_PAGE_EXTENT_VER {
-        return SH_PAGE_EXTENT_HEADER_LEN;
+    if names_extent(page) {
+        SH_PAGE_EXTENT_HEADER_LEN
+    } else {
+        SH_PAGE_HEADER_LEN
     }
-    SH_PAGE_HEADER_LEN
 }
 
 // Passes an offset that a link can name. With its bits turned by twelve a remainder stands above the index: one test passes what has none
 // and an index that is small enough.
-pub fn check_link(off: u64) -> PageDone
+#[tactic(auto, using(crate::proofs::LawsFields::turned_named, crate::proofs::LawsFields::turned_large), unfolding(error::specs::Refusal::refuse_if))]
+pub fn check_link(off: u64) -> Result<(), Refusal>
     ensures { done_answer result ≡ link_named off }
 {
     let turned = off % SH_PAGE_BYTES * SH_PAGE_TURN + off / SH_PAGE_BYTES;
     if turned < SH_PAGE_INDEX_RANGE {
-        return PageDone::Done;
+        return Ok(());
     }
     if off % SH_PAGE_BYTES != 0 {
-        return PageDone::Refused(error::LINK_UNALIGNED);
+        return Err(Refusal::LinkUnaligned);
     }
-    PageDone::Refused(error::LINK_TOO_LARGE)
+    Err(Refusal::LinkTooLarge)
 }
 
 // Passes an extent that a page can name.
-pub fn check_extent(base: u64, n: u32) -> PageDone
+#[tactic(auto, unfolding(error::specs::Refusal::refuse_if))]
+pub fn check_extent(base: u64, n: u32) -> Result<(), Refusal>
     ensures { done_answer result ≡ extent_named base n }
 {
     if n == 0 {
-        return PageDone::Refused(error::EXTENT_COUNT_ZERO);
+        return Err(Refusal::ExtentCountZero);
     }
-    if base % SH_PAGE_BYTES != 0 {
-        return PageDone::Refused(error::EXTENT_BASE_BAD);
+    if base % SH_PAGE_BYTES != 0 || base == 0 {
+        return Err(Refusal::ExtentBaseBad);
     }
-    if base == 0 {
-        return PageDone::Refused(error::EXTENT_BASE_BAD);
+    Ok(())
+}
+
+// Passes a count of numbers that the stream of a page has room for, from its start on.
+#[tactic(auto, unfolding(error::specs::Refusal::refuse_if))]
+fn check_count(n: usize, start: usize) -> Result<(), Refusal>
+    requires { start ≤ page_size }
+    ensures { done_answer result
+        ≡ refuse_if (ltb (page_size - start) n) count_above_capacity (accepted tt) }
+{
+    if SH_PAGE_SIZE - start < n {
+        return Err(Refusal::CountAboveCapacity);
     }
-    PageDone::Done
+    Ok(())
 }
 
 // A version that a page with n numbers may have.
-fn version_known(version: u8, n: u16) -> bool
+fn version_known(version: u8, n: usize) -> bool
     ensures { result ≡ (eqb version 1 || eqb version 2 || (eqb version 0 && eqb n 0)) }
 {
-    if version == SH_PAGE_DELTA_VER {
-        return true;
-    }
-    if version == SH_PAGE_EXTENT_VER {
-        return true;
-    }
-    if version == 0 {
-        return n == 0;
-    }
-    false
-}
-
-// Makes every byte 0.
-pub fn clear(page: &mut [u8])
-    ensures { page.new ≡ replicate (length page.old) 0 }
-{
-    let mut i: usize = 0;
-    while i < page.len() {
-        page[i] = 0;
-        i += 1;
+    match version {
+        SH_PAGE_DELTA_VER | SH_PAGE_EXTENT_VER => true,
+        0 => n == 0,
+        _ => false,
     }
 }
 
 // A page's link.
-pub fn sh_page_read_packed(page: &[u8]) -> PageLink
+#[tactic(auto, unfolding(crate::specs::Fields::read_link, error::specs::Refusal::refuse_if))]
+pub fn sh_page_read_packed(page: &[u8]) -> Result<PageLink, Refusal>
     ensures { link_answer result ≡ read_link page.now }
 {
-    if page.len() != SH_PAGE_SIZE {
-        return PageLink::Refused(error::PAGE_LENGTH);
-    }
-    let link = link_of(page);
-    PageLink::Link {
-        last: link % 2 == 1,
-        off: link / 2 * SH_PAGE_BYTES,
-    }
+    whole_page(page)?;
+    Ok(page_link(page))
 }
 
 // The first page's offset, of a page with LAST.
-pub fn sh_page_first_off(page: &[u8]) -> PageOffset
+#[tactic(auto, unfolding(crate::specs::Fields::read_link, crate::specs::Fields::first_off, error::specs::Refusal::refuse_if))]
+pub fn sh_page_first_off(page: &[u8]) -> Result<u64, Refusal>
     ensures { offset_answer result ≡ first_off page.now }
 {
-    if page.len() != SH_PAGE_SIZE {
-        return PageOffset::Refused(error::PAGE_LENGTH);
+    let link = sh_page_read_packed(page)?;
+    if !link.last {
+        return Err(Refusal::NotLast);
     }
-    let link = link_of(page);
-    if link % 2 != 1 {
-        return PageOffset::Refused(error::NOT_LAST);
-    }
-    PageOffset::Offset(link / 2 * SH_PAGE_BYTES)
+    Ok(link.off)
 }
 
-// Passes a page that can be read.
-pub fn sh_page_require_delta(page: &[u8]) -> PageDone
-    ensures { done_answer result ≡ require_delta page.now }
+// How many numbers a page has.
+#[tactic(auto, unfolding(crate::specs::Fields::n_fks, crate::specs::Page::field, error::specs::Refusal::refuse_if))]
+pub fn sh_page_n_fks(page: &[u8]) -> Result<usize, Refusal>
+    ensures { count_answer result ≡ n_fks page.now }
 {
-    if page.len() != SH_PAGE_SIZE {
-        return PageDone::Refused(error::PAGE_LENGTH);
-    }
-    let n = buffer::get_u16(page, SH_PAGE_OFF_N_FKS);
+    whole_page(page)?;
+    let n = usize::from(buffer::get_u16(page, SH_PAGE_OFF_N_FKS));
+    check_count(n, stream_off(page))?;
+    Ok(n)
+}
+
+// Passes a page that can be read. The version is asked first, so that a page that names an extent takes two tests.
+#[tactic(auto, unfolding(crate::specs::Fields::require_delta, crate::specs::Page::field, error::specs::Refusal::refuse_if))]
+pub fn sh_page_require_delta(page: &[u8]) -> Result<(), Refusal>
+    ensures whole { IfOk result (λ done. length page.now ≡ page_size) }
+    ensures answer { done_answer result ≡ require_delta page.now }
+{
+    whole_page(page)?;
+    let n = usize::from(buffer::get_u16(page, SH_PAGE_OFF_N_FKS));
     let version = version_of(page);
     if version == SH_PAGE_EXTENT_VER {
-        if SH_PAGE_SIZE - SH_PAGE_EXTENT_HEADER_LEN < n as usize {
-            return PageDone::Refused(error::COUNT_ABOVE_CAPACITY);
-        }
-        return PageDone::Done;
+        return check_count(n, SH_PAGE_EXTENT_HEADER_LEN);
     }
-    if SH_PAGE_SIZE - SH_PAGE_HEADER_LEN < n as usize {
-        return PageDone::Refused(error::COUNT_ABOVE_CAPACITY);
+    check_count(n, SH_PAGE_HEADER_LEN)?;
+    if !version_known(version, n) {
+        return Err(Refusal::VersionBad);
     }
-    if version_known(version, n) {
-        return PageDone::Done;
-    }
-    PageDone::Refused(error::VERSION_BAD)
+    Ok(())
 }

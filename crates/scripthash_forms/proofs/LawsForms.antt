@@ -3,7 +3,7 @@ use Prim.Native.Nat.{ℕ, ◌+◌, ◌-◌, ◌*◌, ◌%◌, ◌^◌, ◌≤◌
 use mathlib.Core.Bool.{false}
 use mathlib.Core.List.{List}
 use mathlib.Core.Path.{◌≡◌, refl, sym, ap, ◌∙◌, subst}
-use native.Mathlib.Nat.{not-suc-le-zero, add-zero}
+use native.Mathlib.Nat.{add-zero}
 use native.Mathlib.Omega.{arith}
 use borrow.Author.Tests.{le-ltb, ne_eqb}
 use lib.ListN.{length, drop, get_or, length-drop}
@@ -12,11 +12,6 @@ use Rattle.error.specs.Refusal.{accepted}
 use Rattle.compact.specs.Uleb128.{piece, passes, read_uleb}
 use Rattle.compact.proofs.LawsReadFrom.{read_from, from_start, at_last, at_more}
 use Rattle.scripthash_forms.specs.Quick.{ThreeGoOn, QuickForm}
-
--- a form of which nothing is told
-pub quick_form_none : (len : ℕ) (bs : List ℕ) → QuickForm 0 len bs
-unfolding QuickForm
-quick_form_none len bs h = absurd (not-suc-le-zero h)
 
 -- one that was read
 pub quick_form : (value len : ℕ) (bs : List ℕ) → read_uleb bs ≡ accepted (record { value = value; len = len }) → QuickForm value len bs
@@ -66,20 +61,6 @@ module _ {buf : List ℕ} {off j acc place : ℕ} (m : Carried buf off j acc) (i
       quick_form value len (drop off buf)
       (sym m.reads ∙ (rw (here, piece, ← e, ← l)
       at (at_last (drop off buf) j acc inside (stays (get_or (drop off buf) j 0)) (rw here g))))
-
--- three bytes that were read, each of which goes on
-pub three_read : (buf : List ℕ) (off v0 v1 v2 : ℕ) → off + 3 ≤ length buf
-    → (128 ≤ get_or buf off 0) × (get_or buf off 0 < 256) × (v0 ≡ 0 + (get_or buf off 0 - 128) * 1)
-    → (128 ≤ get_or buf (off + 1) 0) × (get_or buf (off + 1) 0 < 256) × (v1 ≡ v0 + (get_or buf (off + 1) 0 - 128) * 128)
-    → (128 ≤ get_or buf (off + 2) 0) × (get_or buf (off + 2) 0 < 256) × (v2 ≡ v1 + (get_or buf (off + 2) 0 - 128) * 16384)
-    → ThreeGoOn buf off v2
-three_read buf off v0 v1 v2 l (a, p, e) (b, q, f) (c, r, g) = record {
-  within = l;
-  first = a;
-  second = b;
-  third = c;
-  carries = rw (piece_on _ a p, piece_on _ b q, piece_on _ c r) (omega (arith, e, f, g));
-}
 
 -- three bytes that go on carry what their pieces add up to
 pub three_carried : {buf : List ℕ} {off value : ℕ} → ThreeGoOn buf off value → Carried buf off 3 value

@@ -1,4 +1,5 @@
 // Streams read in one pass: the numbers go through lists that hold them until the last is there.
+// The bytes, the place and the number before it stay parameters, and 0 tells that nothing was read: other crates call it so.
 ghost use Rattle.std.specs.Prelude.{◌≡◌, ◌+◌, ◌^◌, ◌≤◌, ◌<◌, length, take};
 ghost use Rattle.buffer.specs.Bytes.{overwrite};
 ghost use Rattle.scripthash_forms.specs.Quick.{QuickPart, scan_at};
@@ -10,11 +11,7 @@ pub fn copy_fks(from: &[u64], n: usize, out: &mut [u64], at: usize)
     requires { (n ≤ length from.now) × (at + n ≤ length out.old) }
     ensures { out.new ≡ overwrite out.old at (take n from.now) }
 {
-    let mut k: usize = 0;
-    while k < n {
-        out[at + k] = from[k];
-        k += 1;
-    }
+    out[at..at + n].copy_from_slice(&from[..n]);
 }
 
 // Reads n forms through a list that holds their numbers until all are read, and then copies them to a place of out: tells the place behind

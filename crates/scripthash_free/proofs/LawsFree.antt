@@ -1,18 +1,17 @@
 -- Laws of free lists, each over the class: what the calls answer, what a list names after a push, a pop and a write apart from
 -- its blocks, and the blocks that a gap is carved into. By cases on the tests, and by induction on the list.
-use mathlib.Core.Path.{◌≡◌, refl, sym, ap}
-use mathlib.Core.Bool.{Bool, true, false, not}
+use mathlib.Core.Path.{◌≡◌, ap}
+use mathlib.Core.Bool.{true, false, not}
 use mathlib.Core.List.{List}
 use mathlib.Core.Option.{none, some}
 use Prim.Native.Nat.{ℕ, ◌≤◌, ◌<◌, min}
 use lib.ListN.{length, set}
 use borrow.Author.Tests.{lt-ltb, le-ltb, eq-eqb, ne_eqb}
-use Rattle.error.specs.Refusal.{Answer, accepted, refused, answered, refusal_of, free_head_bad}
-use Rattle.error.proofs.LawsAnswer.{refuse_yes, refuse_no, answered_yes, answered_no}
+use Rattle.error.specs.Refusal.{Answer, accepted, refused, free_head_bad}
+use Rattle.error.proofs.LawsAnswer.{refuse_yes, refuse_no}
 use Rattle.scripthash_free.specs.FreeList.{Lists, Pop, first_freed, next_of, is_block, pushed, push_free, pop_free, gap_blocks, push_all}
 use Rattle.scripthash_free.specs.FreeList.{is_gap}
 use Rattle.scripthash_free.specs.FreeList.{carve_gap, lists_after, heads_after}
-use Rattle.scripthash_free.specs.Answers.{was_done, done_or}
 
 -- What is accepted stands afterwards.
 pub after_accepted : (a : Answer Lists) (before : Lists) {l : Lists} → a ≡ accepted l → lists_after a before ≡ l
@@ -78,13 +77,3 @@ carve_yes from to l e = refuse_no _ _ _ (ap not e)
 pub carve_no : (from to : ℕ) (l : Lists) → is_gap from to (length l.body) ≡ false → carve_gap from to l ≡ refused free_head_bad
 unfolding carve_gap
 carve_no from to l e = refuse_yes _ _ _ (ap not e)
-
--- The number that carving tells is its whole answer.
-module _ (from to : ℕ) (l : Lists) where
-  carve_by : (b : Bool) → is_gap from to (length l.body) ≡ b
-      → done_or (refusal_of (carve_gap from to l)) ≡ answered was_done (carve_gap from to l)
-  carve_by true e = rw (carve_yes from to l e) (sym (answered_yes was_done _ refl))
-  carve_by false e = rw (carve_no from to l e) (sym (answered_no was_done _ refl))
-
-  pub carve_told : done_or (refusal_of (carve_gap from to l)) ≡ answered was_done (carve_gap from to l)
-  carve_told = carve_by (is_gap from to (length l.body)) refl

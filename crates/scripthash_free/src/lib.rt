@@ -3,11 +3,11 @@
 #![tactic(auto)]
 
 ghost use Rattle.std.specs.Prelude.{◌≡◌, Bool, ◌+◌, ◌≤◌, ◌<◌, min, length};
-ghost use Rattle.error.specs.Refusal.{answered, refusal_of};
+ghost use Rattle.error.specs.Refusal.{answered};
 ghost use Rattle.scripthash_layout.specs.Sizes.{max_slab_class, page_class};
 ghost use Rattle.scripthash_free.specs.FreeList.{Pop, lists, is_block, pushed, push_free, pop_free, reloc_class, gap_blocks, push_all};
 ghost use Rattle.scripthash_free.specs.FreeList.{is_gap, carve_gap, lists_after, heads_after};
-ghost use Rattle.scripthash_free.specs.Answers.{class_answer, push_answer, pop_answer, was_done, done_or};
+ghost use Rattle.scripthash_free.specs.Answers.{class_answer, push_answer, pop_answer, was_done};
 
 use error::Refusal;
 use scripthash_layout::{
@@ -18,85 +18,38 @@ use scripthash_layout::{
 const LARGEST_BYTES: u64 = 2048;
 
 // The offset of the first freed block of each class, 0 to 8, and 0 where a class has none.
-#[derive(Clone, Copy)]
+#[derive(Clone, Copy, Debug, PartialEq, Eq)]
 pub struct FreeHeads {
     pub heads: [u64; 9],
 }
 
-// The class of the blocks that so many bytes have room for, if there is one.
-#[derive(Clone, Copy)]
-pub enum RelocClass {
-    Class(u8),
-    Nothing,
-}
-
-// What pushing a block, or the blocks of a gap, answers.
-#[derive(Clone, Copy)]
-pub enum PushFree {
-    Pushed,
-    Refused(Refusal),
-}
-
-// What popping a block answers: its offset, none, or a refusal.
-#[derive(Clone, Copy)]
-pub enum PopFree {
-    Block(u64),
-    Nothing,
-    Refused(Refusal),
-}
-
 // The answer of a push, and the free heads after it.
-#[derive(Clone, Copy)]
+#[derive(Clone, Copy, Debug, PartialEq, Eq)]
 pub struct AfterPush {
-    pub answer: PushFree,
+    pub answer: Result<(), Refusal>,
     pub free: FreeHeads,
 }
 
 // The answer of a pop, and the free heads after it.
-#[derive(Clone, Copy)]
+#[derive(Clone, Copy, Debug, PartialEq, Eq)]
 pub struct AfterPop {
-    pub answer: PopFree,
+    pub answer: Result<Option<u64>, Refusal>,
     pub free: FreeHeads,
-}
-
-impl PushFree {
-    // The refusal's number, and 0 of another answer.
-    pub fn refusal(self) -> Refusal
-        ensures { result ≡ refusal_of (push_answer self) }
-    {
-        match self {
-            PushFree::Pushed => 0,
-            PushFree::Refused(number) => number,
-        }
-    }
-}
-
-impl PopFree {
-    // The refusal's number, and 0 of another answer.
-    pub fn refusal(self) -> Refusal
-        ensures { result ≡ refusal_of (pop_answer self) }
-    {
-        match self {
-            PopFree::Block(_) => 0,
-            PopFree::Nothing => 0,
-            PopFree::Refused(number) => number,
-        }
-    }
 }
 
 // The largest class of a slab whose blocks have at most so many bytes. Class c begins at 16 * 2 ^ c bytes, so below those of the largest
 // the class is one less than the length in bits of bytes / 16.
-pub fn largest_reloc_class_le(bytes: u64) -> RelocClass
+pub fn largest_reloc_class_le(bytes: u64) -> Option<u8>
     ensures { class_answer result ≡ reloc_class bytes }
 {
     if bytes < SH_SLAB_BASE_BYTES {
-        return RelocClass::Nothing;
+        return None;
     }
     if bytes >= LARGEST_BYTES {
-        return RelocClass::Class(SH_MAX_SLAB_CLASS);
+        return Some(SH_MAX_SLAB_CLASS);
     }
     let zeros = u64::leading_zeros(bytes / 16);
-    RelocClass::Class((63 - zeros) as u8)
+    Some((63 - zeros) as u8)
 }
 
 // Tells whether a page can stand at an offset and end at or below an end.
@@ -152,19 +105,13 @@ pub fn is_block(class: u8, off: u64, end: u64) -> bool
     is_slab(class, off, end)
 }
 
-// The lower of two offsets.
-fn lower(a: u64, b: u64) -> u64
-    ensures { result ≡ min a b }
-{
-    if a < b { a } else { b }
-}
-
 // Makes a block the head of its class's free list: writes the head so far to its first 8 bytes.
+#[tactic(auto, unfolding(crate::specs::FreeList::pushed))]
 fn put_free_head(body: &mut [u8], heads: &mut [u64; 9], class: u8, off: u64)
     requires { (class ≤ 8) × (off + 8 ≤ length body.old) }
     ensures { lists body.new heads.new ≡ pushed class off (lists body.old heads.old) }
 {
-    let idx = class as usize;
+    let idx = usize::from(class);
     let head = heads[idx];
     buffer::put_u64(body, off as usize, head);
     heads[idx] = off;
@@ -172,7 +119,7 @@ fn put_free_head(body: &mut [u8], heads: &mut [u64; 9], class: u8, off: u64)
 
 // Pushes a block onto its class's free list, with the free heads lent: its first 8 bytes name the head so far, and it becomes the head.
 // A block that a pop would turn back isn't pushed.
-pub fn push_lent(body: &mut [u8], heads: &mut [u64; 9], class: u8, off: u64) -> PushFree
+pub fn push_lent(body: &mut [u8], heads: &mut [u64; 9], class: u8, off: u64) -> Result<(), Refusal>
     ensures answer { push_answer result ≡ answered was_done (push_free class off (lists body.old heads.old)) }
     ensures lists { lists body.new heads.new
         ≡ lists_after (push_free class off (lists body.old heads.old))
@@ -180,12 +127,12 @@ pub fn push_lent(body: &mut [u8], heads: &mut [u64; 9], class: u8, off: u64) -> 
 {
     if is_block(class, off, body.len() as u64) {
         put_free_head(body, heads, class, off);
-        return PushFree::Pushed;
+        return Ok(());
     }
-    PushFree::Refused(error::FREE_HEAD_BAD)
+    Err(Refusal::FreeHeadBad)
 }
 
-// Pushes a block onto its class's free list, with the free heads by value.
+// Pushes a block onto its class's free list, with the free heads by value: the source's call, a promise that stays.
 pub fn push_free_head(body: &mut [u8], free: FreeHeads, class: u8, off: u64) -> AfterPush
     ensures answer { push_answer result.answer ≡ answered was_done (push_free class off (lists body.old free.heads)) }
     ensures lists { lists body.new result.free.heads
@@ -201,28 +148,34 @@ pub fn push_free_head(body: &mut [u8], free: FreeHeads, class: u8, off: u64) -> 
 
 // Pops a block of a class, with the free heads lent: gives the head, and makes the offset in its first 8 bytes the head. None where the
 // head is 0 or the class has no head. The block must lie below the mark, and within the body.
-pub fn pop_lent(body: &[u8], heads: &mut [u64; 9], class: u8, mark: u64) -> PopFree
+#[tactic(auto, using(crate::proofs::LawsBlock::block_stands, crate::proofs::LawsBlock::bytes_from_16), unfolding(crate::specs::FreeList::pop_free, crate::specs::FreeList::heads_after, error::specs::Refusal::refuse_if, error::specs::Refusal::answered))]
+pub fn pop_lent(
+    body: &[u8],
+    heads: &mut [u64; 9],
+    class: u8,
+    mark: u64,
+) -> Result<Option<u64>, Refusal>
     ensures answer { pop_answer result
         ≡ answered (λ (p : Pop). p.block) (pop_free class mark (lists body.now heads.old)) }
     ensures heads { heads.new
         ≡ heads_after (pop_free class mark (lists body.now heads.old)) heads.old }
 {
     if class > SH_PAGE_SLAB_CLASS {
-        return PopFree::Nothing;
+        return Ok(None);
     }
-    let idx = class as usize;
+    let idx = usize::from(class);
     let off = heads[idx];
     if off == 0 {
-        return PopFree::Nothing;
+        return Ok(None);
     }
-    if is_block(class, off, lower(mark, body.len() as u64)) {
+    if is_block(class, off, mark.min(body.len() as u64)) {
         heads[idx] = buffer::get_u64(body, off as usize);
-        return PopFree::Block(off);
+        return Ok(Some(off));
     }
-    PopFree::Refused(error::FREE_HEAD_BAD)
+    Err(Refusal::FreeHeadBad)
 }
 
-// Pops a block of a class, with the free heads by value.
+// Pops a block of a class, with the free heads by value: the source's call, a promise that stays.
 pub fn pop_free_head(body: &[u8], free: FreeHeads, class: u8, mark: u64) -> AfterPop
     ensures answer { pop_answer result.answer
         ≡ answered (λ (p : Pop). p.block) (pop_free class mark (lists body.now free.heads)) }
@@ -260,6 +213,7 @@ fn push_largest(body: &mut [u8], heads: &mut [u64; 9], from: u64, to: u64) -> u6
         ≡ push_all (gap_blocks from to) (lists body.old heads.old) }
 {
     let mut off = from;
+    // The step isn't one: each turn goes on by a block's length, so no range counts it.
     while to - off >= LARGEST_BYTES {
         put_free_head(body, heads, SH_MAX_SLAB_CLASS, off);
         off += LARGEST_BYTES;
@@ -274,9 +228,7 @@ fn push_smaller(body: &mut [u8], heads: &mut [u64; 9], from: u64, to: u64)
         ≡ push_all (gap_blocks from to) (lists body.old heads.old) }
 {
     let mut off = from;
-    let mut class = SH_MAX_SLAB_CLASS;
-    while class > 0 {
-        class -= 1;
+    for class in (0..SH_MAX_SLAB_CLASS).rev() {
         let size = scripthash_layout::slab_bytes(class);
         if size <= to - off {
             put_free_head(body, heads, class, off);
@@ -287,43 +239,32 @@ fn push_smaller(body: &mut [u8], heads: &mut [u64; 9], from: u64, to: u64)
 
 // Carves the gap between two offsets into blocks, from its low end, the largest class up to 7 first, and pushes each, with the free heads
 // lent. A rest below 16 bytes is left. A gap that has bytes must begin at a multiple of 16 and lie between 4,096 and the body's end.
-// Answers the refusal's number, and 0 where it was done.
-pub fn carve_lent(body: &mut [u8], heads: &mut [u64; 9], from: u64, to: u64) -> Refusal
-    ensures number { result ≡ refusal_of (carve_gap from to (lists body.old heads.old)) }
+pub fn carve_lent(body: &mut [u8], heads: &mut [u64; 9], from: u64, to: u64) -> Result<(), Refusal>
+    ensures answer { push_answer result ≡ answered was_done (carve_gap from to (lists body.old heads.old)) }
     ensures lists { lists body.new heads.new
         ≡ lists_after (carve_gap from to (lists body.old heads.old))
         (lists body.old heads.old) }
 {
     if !is_gap(from, to, body.len() as u64) {
-        return error::FREE_HEAD_BAD;
+        return Err(Refusal::FreeHeadBad);
     }
     if from < to {
         let rest = push_largest(body, heads, from, to);
         push_smaller(body, heads, rest, to);
     }
-    0
+    Ok(())
 }
 
-// The answer whose number is this: done where it is 0.
-fn done_or(number: Refusal) -> PushFree
-    ensures { push_answer result ≡ done_or number }
-{
-    if number == 0 {
-        return PushFree::Pushed;
-    }
-    PushFree::Refused(number)
-}
-
-// Carves the gap between two offsets into blocks, and pushes each, with the free heads by value.
+// Carves the gap between two offsets into blocks, and pushes each, with the free heads by value: the source's call, a promise that stays.
 pub fn carve_gap_into_freelist(body: &mut [u8], free: FreeHeads, from: u64, to: u64) -> AfterPush
     ensures answer { push_answer result.answer ≡ answered was_done (carve_gap from to (lists body.old free.heads)) }
     ensures lists { lists body.new result.free.heads
         ≡ lists_after (carve_gap from to (lists body.old free.heads)) (lists body.old free.heads) }
 {
     let mut heads = free.heads;
-    let number = carve_lent(body, &mut heads, from, to);
+    let answer = carve_lent(body, &mut heads, from, to);
     AfterPush {
-        answer: done_or(number),
+        answer,
         free: FreeHeads { heads },
     }
 }

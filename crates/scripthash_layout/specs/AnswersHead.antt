@@ -1,18 +1,14 @@
 -- What the answers of packing and unpacking say.
-use Rattle.std.specs.Prelude.{ℕ}
-use Rattle.error.specs.Refusal.{Answer, accepted, refused}
+use Rattle.std.specs.Prelude.{ℕ, Result}
+use Rattle.error.specs.Refusal.{Answer}
+use Rattle.error.specs.Answers.{result_answer}
+use Rattle.error.specs.declared.Refusal.{Refusal}
 use Rattle.scripthash_layout.specs.declared.head.ShHeadValue.{ShHeadValue}
-use Rattle.scripthash_layout.specs.declared.head.Packed.{Packed}
-use Rattle.scripthash_layout.specs.declared.head.Packed.TheVariants.{Word, Refused}
-use Rattle.scripthash_layout.specs.declared.head.Unpacked.{Unpacked}
-use Rattle.scripthash_layout.specs.declared.head.Unpacked.TheVariants.{Head, Refused as NotRead}
 
 -- A packed word, or a refusal.
-abbrev pub pack_answer : Packed → Answer ℕ
-pack_answer (Word w) = accepted w
-pack_answer (Refused number) = refused number
+abbrev pub pack_answer : Result ℕ Refusal → Answer ℕ
+pack_answer = result_answer (λ word. word)
 
 -- What a word says, or a refusal.
-abbrev pub unpack_answer : Unpacked → Answer ShHeadValue
-unpack_answer (Head v) = accepted v
-unpack_answer (NotRead number) = refused number
+abbrev pub unpack_answer : Result ShHeadValue Refusal → Answer ShHeadValue
+unpack_answer = result_answer (λ place. place)

@@ -23,7 +23,7 @@ const SH_INLINE_CAP: u64 = 1;
 pub const SH_PREFIX_PAGE: u64 = 4096;
 
 // What a head word says of its key.
-#[derive(Clone, Copy)]
+#[derive(Clone, Copy, Debug, PartialEq, Eq)]
 pub enum ShHeadValue {
     // No number.
     Empty,
@@ -35,113 +35,98 @@ pub enum ShHeadValue {
     Extent { last_page: u64 },
 }
 
-// The word of a head value.
-#[derive(Clone, Copy)]
-pub enum Packed {
-    Word(u64),
-    Refused(Refusal),
-}
-
-// The head value of a word.
-#[derive(Clone, Copy)]
-pub enum Unpacked {
-    Head(ShHeadValue),
-    Refused(Refusal),
-}
-
 // The word of a slab whose fields are within their bits.
 fn slab_word(class: u8, used: u16, off: u64) -> u64
     requires { (class < 64) × (off < 2 ^ 40) }
     ensures { result ≡ slab_word class used off }
 {
-    off + used as u64 * SH8_USED_UNIT + class as u64 * SH8_CLASS_UNIT + SH8_MODE_UNIT
+    off + u64::from(used) * SH8_USED_UNIT + u64::from(class) * SH8_CLASS_UNIT + SH8_MODE_UNIT
 }
 
 // The word that stores a head value.
-pub fn pack8(v: ShHeadValue) -> Packed
+pub fn pack8(v: ShHeadValue) -> Result<u64, Refusal>
     ensures { pack_answer result ≡ pack_head v }
 {
     match v {
-        ShHeadValue::Empty => Packed::Word(0),
+        ShHeadValue::Empty => Ok(0),
         ShHeadValue::Inline { entry, used } => {
-            if used as u64 != SH_INLINE_CAP {
-                return Packed::Refused(error::INLINE_USED_NOT_ONE);
+            if u64::from(used) != SH_INLINE_CAP {
+                return Err(Refusal::InlineUsedNotOne);
             }
             if entry >= SH8_MODE_UNIT {
-                return Packed::Refused(error::INLINE_TOO_LARGE);
+                return Err(Refusal::InlineTooLarge);
             }
-            Packed::Word(entry)
+            Ok(entry)
         }
         ShHeadValue::Slab { class, used, off } => {
             if off >= SH8_USED_UNIT {
-                return Packed::Refused(error::SLAB_FIELD_TOO_LARGE);
+                return Err(Refusal::SlabFieldTooLarge);
             }
-            if class as u64 >= SH8_CLASS_RANGE {
-                return Packed::Refused(error::SLAB_FIELD_TOO_LARGE);
+            if u64::from(class) >= SH8_CLASS_RANGE {
+                return Err(Refusal::SlabFieldTooLarge);
             }
-            Packed::Word(slab_word(class, used, off))
+            Ok(slab_word(class, used, off))
         }
         ShHeadValue::Extent { last_page } => {
             if last_page == 0 {
-                return Packed::Refused(error::EXTENT_OUT_OF_RANGE);
+                return Err(Refusal::ExtentOutOfRange);
             }
             if last_page >= SH8_MODE_UNIT {
-                return Packed::Refused(error::EXTENT_OUT_OF_RANGE);
+                return Err(Refusal::ExtentOutOfRange);
             }
-            Packed::Word(last_page + 3 * SH8_MODE_UNIT)
+            Ok(last_page + 3 * SH8_MODE_UNIT)
         }
     }
 }
 
-// What a stored word says. A match on its mode decides.
+// What a stored word says. A match on its mode decides: here the numbers of FORMAT become the cases of a head value, and there is no other
+// use of them that an enum of modes would name.
 #[tactic(auto, unfolding(crate::specs::Head::unpack_head, error::specs::Refusal::refuse_if))]
-pub fn unpack8(w: u64) -> Unpacked
+pub fn unpack8(w: u64) -> Result<ShHeadValue, Refusal>
     ensures { unpack_answer result ≡ unpack_head w }
 {
     let mode = w / SH8_MODE_UNIT;
     match mode {
         0 => {
             if w == 0 {
-                return Unpacked::Head(ShHeadValue::Empty);
+                return Ok(ShHeadValue::Empty);
             }
-            Unpacked::Head(ShHeadValue::Inline { entry: w, used: 1 })
+            Ok(ShHeadValue::Inline { entry: w, used: 1 })
         }
         1 => {
             let off = w % SH8_USED_UNIT;
             let used = w / SH8_USED_UNIT % SH8_USED_RANGE;
             let class = w / SH8_CLASS_UNIT % SH8_CLASS_RANGE;
             if used <= SH_INLINE_CAP {
-                return Unpacked::Refused(error::SLAB_USED_TOO_SMALL);
+                return Err(Refusal::SlabUsedTooSmall);
             }
-            Unpacked::Head(ShHeadValue::Slab {
+            Ok(ShHeadValue::Slab {
                 class: class as u8,
                 used: used as u16,
                 off,
             })
         }
-        2 => Unpacked::Refused(error::MODE_TWO),
+        2 => Err(Refusal::ModeTwo),
         // 3: a word has 64 bits, so its mode is at most that.
         _ => {
             let last_page = w % SH8_MODE_UNIT;
             if last_page == 0 {
-                return Unpacked::Refused(error::EXTENT_PAYLOAD_ZERO);
+                return Err(Refusal::ExtentPayloadZero);
             }
-            Unpacked::Head(ShHeadValue::Extent { last_page })
+            Ok(ShHeadValue::Extent { last_page })
         }
     }
 }
 
 // The eight bytes that store a head value, into a lent buffer, which stays as it was where packing is refused.
-pub fn pack8_bytes(v: ShHeadValue, out: &mut [u8; 8]) -> Packed
+#[tactic(auto, unfolding(crate::specs::Head::head_bytes))]
+pub fn pack8_bytes(v: ShHeadValue, out: &mut [u8; 8]) -> Result<u64, Refusal>
     ensures answer { pack_answer result ≡ pack_head v }
     ensures buffer { out.new ≡ head_bytes (pack_head v) out.old }
 {
-    let packed = pack8(v);
-    let Packed::Word(w) = packed else {
-        return packed;
-    };
-    *out = buffer::u64_bytes(w);
-    packed
+    let word = pack8(v)?;
+    *out = buffer::u64_bytes(word);
+    Ok(word)
 }
 
 // The word that eight bytes hold.
@@ -152,7 +137,7 @@ fn word_of(b: [u8; 8]) -> u64
 }
 
 // What eight stored bytes say.
-pub fn unpack8_bytes(buf: &[u8; 8]) -> Unpacked
+pub fn unpack8_bytes(buf: &[u8; 8]) -> Result<ShHeadValue, Refusal>
     ensures { unpack_answer result ≡ unpack_head (little_endian buf.now) }
 {
     let b = *buf;

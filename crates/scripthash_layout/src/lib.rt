@@ -6,8 +6,7 @@ mod head;
 mod sizes;
 
 pub use head::{
-    Packed, SH_PREFIX_PAGE, ShHeadValue, Unpacked, pack8, pack8_bytes, payload_start, unpack8,
-    unpack8_bytes,
+    SH_PREFIX_PAGE, ShHeadValue, pack8, pack8_bytes, payload_start, unpack8, unpack8_bytes,
 };
 pub use sizes::{
     SH_MAX_SLAB_BYTES, SH_MAX_SLAB_CLASS, SH_PAGE_BYTES, SH_PAGE_SIZE, SH_PAGE_SLAB_CLASS,

@@ -17,7 +17,8 @@ pub const SH_PAGE_SIZE: usize = 4096;
 // The same, as an offset counts them.
 pub const SH_PAGE_BYTES: u64 = 4096;
 
-// How many numbers a slab of a class has slots for, or 0 where that passes 32 bits.
+// How many numbers a slab of a class has slots for, or 0 where that passes 32 bits. Not one generic function with `slab_bytes`: it would take
+// a trait of shifts for two lines.
 pub fn slab_cap(class: u8) -> u32
     ensures { result ≡ where_below 32 (slab_slots class) }
 {

@@ -1,19 +1,16 @@
--- What the answers about a page's stream mean: a refusal's number (FORMAT, Refusals) or values for each of their cases.
-use Rattle.std.specs.Prelude.{ℕ, Bool, true, false}
-use Rattle.error.specs.Refusal.{Answer, accepted, refused}
-use Rattle.scripthash_pages.specs.declared.answers.PageLastFk.{PageLastFk}
-use Rattle.scripthash_pages.specs.declared.answers.PageLastFk.TheVariants.{Last, Refused as NoLast}
+-- What the answers about a page's stream mean: a refusal's number (FORMAT, Refusals) or what was told.
+use Rattle.std.specs.Prelude.{ℕ, Bool, true, false, Result}
+use Rattle.error.specs.Refusal.{Answer}
+use Rattle.error.specs.Answers.{result_answer}
+use Rattle.error.specs.declared.Refusal.{Refusal}
 use Rattle.scripthash_pages.specs.declared.answers.PageEntries.{PageEntries}
-use Rattle.scripthash_pages.specs.declared.answers.PageEntries.TheVariants.{Entries, Refused as NoEntries}
 use Rattle.scripthash_pages.specs.declared.answers.PageSlice.{PageSlice}
-use Rattle.scripthash_pages.specs.declared.answers.PageSlice.TheVariants.{Decoded, Refused as NotDecoded}
 use Rattle.scripthash_pages.specs.declared.answers.TryAppend.{TryAppend}
-use Rattle.scripthash_pages.specs.declared.answers.TryAppend.TheVariants.{Appended, Full, Refused as NotTried}
+use Rattle.scripthash_pages.specs.declared.answers.TryAppend.TheVariants.{Appended, Full}
 
 -- The answer of `sh_page_last_fk`.
-abbrev pub last_fk_answer : PageLastFk → Answer ℕ
-last_fk_answer (Last fk) = accepted fk
-last_fk_answer (NoLast number) = refused number
+abbrev pub last_fk_answer : Result ℕ Refusal → Answer ℕ
+last_fk_answer = result_answer (λ fk. fk)
 
 -- What reading a page's numbers tells: how many, and how many of them are padded.
 pub record EntriesRead : Type 0 where
@@ -21,9 +18,8 @@ pub record EntriesRead : Type 0 where
   pub padded : ℕ
 
 -- The answer of `sh_page_entries_into`.
-abbrev pub entries_answer : PageEntries → Answer EntriesRead
-entries_answer (Entries count padded) = accepted (record { count = count; padded = padded })
-entries_answer (NoEntries number) = refused number
+abbrev pub entries_answer : Result PageEntries Refusal → Answer EntriesRead
+entries_answer = result_answer (λ read. record { count = read.count; padded = read.padded })
 
 -- What reading a page tells besides its numbers: how many, the offset of the page behind it, and how many of the numbers are padded.
 pub record PageRead : Type 0 where
@@ -32,12 +28,14 @@ pub record PageRead : Type 0 where
   pub padded : ℕ
 
 -- The answer of `sh_page_decode_slice_into`.
-abbrev pub slice_answer : PageSlice → Answer PageRead
-slice_answer (Decoded count next padded) = accepted (record { count = count; next = next; padded = padded })
-slice_answer (NotDecoded number) = refused number
+abbrev pub slice_answer : Result PageSlice Refusal → Answer PageRead
+slice_answer = result_answer (λ read. record { count = read.count; next = read.next; padded = read.padded })
+
+-- Whether a number was appended.
+abbrev pub was_appended : TryAppend → Bool
+was_appended Appended = true
+was_appended Full = false
 
 -- The answer of `sh_page_try_append`: whether the number was appended.
-abbrev pub try_answer : TryAppend → Answer Bool
-try_answer Appended = accepted true
-try_answer Full = accepted false
-try_answer (NotTried number) = refused number
+abbrev pub try_answer : Result TryAppend Refusal → Answer Bool
+try_answer = result_answer was_appended

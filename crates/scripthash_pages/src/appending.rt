@@ -12,47 +12,44 @@ ghost use Rattle.scripthash_pages.specs.Answers.{spot_answer};
 use crate::answers::TryAppend;
 use compact::uleb128_len;
 use error::Refusal;
-use scripthash_fields::{SH_PAGE_DELTA_VER, SH_PAGE_EXTENT_VER, SH_PAGE_OFF_N_FKS, stream_off};
+use scripthash_fields::{
+    SH_PAGE_DELTA_VER, SH_PAGE_EXTENT_VER, SH_PAGE_OFF_N_FKS, stream_off, whole_page,
+};
 use scripthash_layout::SH_PAGE_SIZE;
-use scripthash_stream::{MAX_OFFERED, ScanStream, StreamBytes};
+use scripthash_stream::MAX_OFFERED;
 
 // Bit 63, which no number of a stream has.
 const SH_FLAG_BIT: u64 = 0x8000_0000_0000_0000;
 
-// Where an offered number goes in a page, and its difference; nowhere where the page is full; or a refusal.
-#[derive(Clone, Copy)]
-pub enum AppendSpot {
-    Behind { at: usize, difference: u64 },
-    Nowhere,
-    Refused(Refusal),
+// Where an offered number goes in a page, and its difference.
+#[derive(Clone, Copy, Debug, PartialEq, Eq)]
+pub struct AppendSpot {
+    pub at: usize,
+    pub difference: u64,
 }
 
 // Where the number fk goes in a page: behind its stream, which is scanned once.
-fn append_spot(page: &[u8], fk: u64) -> AppendSpot
+#[tactic(auto, using(crate::proofs::LawsAppend::scan_ends, compact::proofs::LawsLength::len_at_most), unfolding(crate::specs::Entries::append_spot, crate::specs::Entries::spot_behind, error::specs::Refusal::refuse_if, error::specs::Refusal::and_then, error::specs::Refusal::answered))]
+fn append_spot(page: &[u8], fk: u64) -> Result<Option<AppendSpot>, Refusal>
     ensures { spot_answer result ≡ append_spot page.now fk }
 {
-    if page.len() != SH_PAGE_SIZE {
-        return AppendSpot::Refused(error::PAGE_LENGTH);
-    }
+    whole_page(page)?;
     if fk == 0 {
-        return AppendSpot::Refused(error::OFFERED_FIRST_ZERO);
+        return Err(Refusal::OfferedFirstZero);
     }
     if SH_FLAG_BIT <= fk {
-        return AppendSpot::Refused(error::OFFERED_BIT_63);
+        return Err(Refusal::OfferedBit63);
     }
-    let tail = crate::entries::sh_page_stream_tail(page);
-    let ScanStream::Scanned { taken, last } = tail else {
-        return AppendSpot::Refused(tail.refusal());
-    };
-    if fk <= last {
-        return AppendSpot::Refused(error::OFFERED_NOT_RISING);
+    let tail = crate::entries::sh_page_stream_tail(page)?;
+    if fk <= tail.last {
+        return Err(Refusal::OfferedNotRising);
     }
-    let at = stream_off(page) + taken;
-    let difference = fk - last;
+    let at = stream_off(page) + tail.taken;
+    let difference = fk - tail.last;
     if SH_PAGE_SIZE < at + uleb128_len(difference) {
-        return AppendSpot::Nowhere;
+        return Ok(None);
     }
-    AppendSpot::Behind { at, difference }
+    Ok(Some(AppendSpot { at, difference }))
 }
 
 // The version of a page once it has a number.
@@ -60,9 +57,10 @@ fn kept_version(version: u8) -> u8
     ensures { result ≡ cond (eqb version 2) 2 1 }
 {
     if version == SH_PAGE_EXTENT_VER {
-        return SH_PAGE_EXTENT_VER;
+        SH_PAGE_EXTENT_VER
+    } else {
+        SH_PAGE_DELTA_VER
     }
-    SH_PAGE_DELTA_VER
 }
 
 // Counts one number more in a page's header.
@@ -85,38 +83,33 @@ fn append_form(page: &mut [u8], at: usize, difference: u64)
 }
 
 // Appends the number fk to a page, or leaves all of the page where it is full or the number is refused.
-pub fn sh_page_try_append(page: &mut [u8], fk: u64) -> TryAppend
+#[tactic(auto, using(crate::proofs::LawsAppend::spot_accepted, crate::proofs::LawsAppend::scan_ends), unfolding(crate::specs::Entries::after_append, error::specs::Refusal::refuse_if, error::specs::Refusal::and_then, error::specs::Refusal::answered))]
+pub fn sh_page_try_append(page: &mut [u8], fk: u64) -> Result<TryAppend, Refusal>
     ensures answer { try_answer result ≡ answered has_spot (append_spot page.old fk) }
     ensures bytes { page.new ≡ after_append page.old (append_spot page.old fk) }
 {
-    let spot = append_spot(page, fk);
-    match spot {
-        AppendSpot::Behind { at, difference } => {
-            append_form(page, at, difference);
-            TryAppend::Appended
+    match append_spot(page, fk)? {
+        Some(spot) => {
+            append_form(page, spot.at, spot.difference);
+            Ok(TryAppend::Appended)
         }
-        AppendSpot::Nowhere => TryAppend::Full,
-        AppendSpot::Refused(number) => TryAppend::Refused(number),
+        None => Ok(TryAppend::Full),
     }
 }
 
 // Writes the stream of an offered list to a page whose version is set, and its count; all of the page is left where the list is refused.
-pub fn sh_page_write_stream(page: &mut [u8], fks: &[u64]) -> StreamBytes
+#[tactic(auto, unfolding(crate::specs::Entries::write_stream, crate::specs::Entries::after_write_stream, scripthash_fields::specs::Page::set_field, error::specs::Refusal::refuse_if, error::specs::Refusal::and_then, error::specs::Refusal::answered))]
+pub fn sh_page_write_stream(page: &mut [u8], fks: &[u64]) -> Result<usize, Refusal>
     ensures answer { bytes_answer result ≡ write_stream page.old fks.now }
     ensures bytes { page.new
         ≡ after_write_stream page.old fks.now (write_stream page.old fks.now) }
 {
-    if page.len() != SH_PAGE_SIZE {
-        return StreamBytes::Refused(error::PAGE_LENGTH);
-    }
+    whole_page(page)?;
     if MAX_OFFERED < fks.len() {
-        return StreamBytes::Refused(error::TOO_MANY_OFFERED);
+        return Err(Refusal::TooManyOffered);
     }
     let off = stream_off(page);
-    let got = scripthash_stream::encode_fk_delta_stream_into(&mut page[off..], fks);
-    let StreamBytes::Bytes(len) = got else {
-        return got;
-    };
+    let len = scripthash_stream::encode_fk_delta_stream_into(&mut page[off..], fks)?;
     buffer::put_u16(page, SH_PAGE_OFF_N_FKS, fks.len() as u16);
-    StreamBytes::Bytes(len)
+    Ok(len)
 }

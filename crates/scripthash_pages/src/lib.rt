@@ -6,7 +6,7 @@ mod appending;
 mod entries;
 mod pack;
 
-pub use answers::{PageEntries, PageLastFk, PageSlice, TryAppend};
+pub use answers::{PageEntries, PageSlice, TryAppend};
 pub use appending::{sh_page_try_append, sh_page_write_stream};
 pub use entries::{
     sh_page_decode_slice_into, sh_page_entries_into, sh_page_last_fk, sh_page_stream_tail,

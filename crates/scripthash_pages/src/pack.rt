@@ -1,36 +1,36 @@
 // Whole pages packed from an offered list: the stream and 0 behind it first, where the list is accepted, then the header.
-ghost use Rattle.std.specs.Prelude.{◌≡◌, ◌++◌, ◌≤◌, length, take};
+ghost use Rattle.std.specs.Prelude.{◌≡◌, ◌++◌, ◌≤◌, IfOk, length, take};
 ghost use Rattle.buffer.specs.Bytes.{overwrite};
 ghost use Rattle.buffer.specs.LittleEndian.{bytes_of};
 ghost use Rattle.scripthash_layout.specs.Sizes.{page_size};
+ghost use Rattle.scripthash_stream.specs.Stream.{max_offered};
 ghost use Rattle.scripthash_fields.specs.Fields.{done, after_set};
 ghost use Rattle.scripthash_fields.specs.FieldAnswers.{done_answer};
 ghost use Rattle.scripthash_pages.specs.Pack.{packed, pack_page, linked, pack_extent};
 
+use error::Refusal;
 use scripthash_fields::{
-    PageDone, SH_PAGE_DELTA_VER, SH_PAGE_EXTENT_HEADER_LEN, SH_PAGE_EXTENT_VER, SH_PAGE_HEADER_LEN,
+    SH_PAGE_DELTA_VER, SH_PAGE_EXTENT_HEADER_LEN, SH_PAGE_EXTENT_VER, SH_PAGE_HEADER_LEN,
     SH_PAGE_OFF_EXTENT_BASE, SH_PAGE_OFF_EXTENT_CREATES, SH_PAGE_OFF_EXTENT_N, SH_PAGE_OFF_N_FKS,
-    SH_PAGE_OFF_PACKED, SH_PAGE_OFF_VER, check_extent, check_link, link_to,
+    SH_PAGE_OFF_PACKED, SH_PAGE_OFF_VER, check_extent, check_link, link_to, whole_page,
 };
-use scripthash_layout::SH_PAGE_SIZE;
-use scripthash_stream::{MAX_OFFERED, StreamBytes};
+use scripthash_stream::MAX_OFFERED;
 
 // Packs the stream of an offered list behind the first bytes of a page, and 0 behind it; all of the page is left where the list is refused.
-fn pack_stream(page: &mut [u8], off: usize, fks: &[u64]) -> PageDone
+#[tactic(auto, unfolding(crate::specs::Pack::packed, crate::specs::Pack::pack_page, crate::specs::Pack::pack_extent, error::specs::Refusal::refuse_if, error::specs::Refusal::and_then, error::specs::Refusal::answered))]
+fn pack_stream(page: &mut [u8], off: usize, fks: &[u64]) -> Result<(), Refusal>
     requires { (length page.old ≡ page_size) × (off ≤ page_size) }
+    ensures few { IfOk result (λ done. length fks.now ≤ max_offered) }
     ensures answer { done_answer result ≡ done (packed (take off page.old) fks.now) }
     ensures page { page.new ≡ after_set page.old (packed (take off page.old) fks.now) }
 {
     if MAX_OFFERED < fks.len() {
-        return PageDone::Refused(error::TOO_MANY_OFFERED);
+        return Err(Refusal::TooManyOffered);
     }
-    let got = scripthash_stream::encode_fk_delta_stream_into(&mut page[off..], fks);
-    let StreamBytes::Bytes(len) = got else {
-        return PageDone::Refused(got.refusal());
-    };
+    let len = scripthash_stream::encode_fk_delta_stream_into(&mut page[off..], fks)?;
     let end = off + len;
-    scripthash_fields::clear(&mut page[end..]);
-    PageDone::Done
+    page[end..].fill(0);
+    Ok(())
 }
 
 // Writes a page's version, count and link.
@@ -64,56 +64,39 @@ fn linked_off(base: u64, next: u64) -> u64
 }
 
 // Packs a page that names no extent, with a next page; with none, at 0, it is LAST with first offset 0.
-pub fn sh_page_pack_fks(page: &mut [u8], fks: &[u64], next: u64) -> PageDone
+#[tactic(auto, unfolding(crate::specs::Pack::packed, crate::specs::Pack::pack_page, crate::specs::Pack::pack_extent, error::specs::Refusal::refuse_if, error::specs::Refusal::and_then, error::specs::Refusal::answered))]
+pub fn sh_page_pack_fks(page: &mut [u8], fks: &[u64], next: u64) -> Result<(), Refusal>
     ensures answer { done_answer result ≡ done (pack_page page.old fks.now next) }
     ensures page { page.new ≡ after_set page.old (pack_page page.old fks.now next) }
 {
-    if page.len() != SH_PAGE_SIZE {
-        return PageDone::Refused(error::PAGE_LENGTH);
-    }
-    let named = check_link(next);
-    let PageDone::Done = named else {
-        return named;
-    };
-    let packed = pack_stream(page, SH_PAGE_HEADER_LEN, fks);
-    let PageDone::Done = packed else {
-        return packed;
-    };
+    whole_page(page)?;
+    check_link(next)?;
+    pack_stream(page, SH_PAGE_HEADER_LEN, fks)?;
     let link = link_to(next == 0, next);
     put_header(page, SH_PAGE_DELTA_VER, fks.len() as u16, link);
-    PageDone::Done
+    Ok(())
 }
 
 // Packs a page that names an extent, with a next page; with none, at 0, it is LAST with the extent's base as first offset.
+#[tactic(auto, unfolding(crate::specs::Pack::packed, crate::specs::Pack::pack_page, crate::specs::Pack::pack_extent, error::specs::Refusal::refuse_if, error::specs::Refusal::and_then, error::specs::Refusal::answered))]
 pub fn sh_page_pack_extent_last_fks(
     page: &mut [u8],
     fks: &[u64],
     base: u64,
     n: u32,
     next: u64,
-) -> PageDone
+) -> Result<(), Refusal>
     ensures answer { done_answer result ≡ done (pack_extent page.old fks.now base n next) }
     ensures page { page.new
         ≡ after_set page.old (pack_extent page.old fks.now base n next) }
 {
-    if page.len() != SH_PAGE_SIZE {
-        return PageDone::Refused(error::PAGE_LENGTH);
-    }
+    whole_page(page)?;
     let off = linked_off(base, next);
-    let named = check_link(off);
-    let PageDone::Done = named else {
-        return named;
-    };
-    let good = check_extent(base, n);
-    let PageDone::Done = good else {
-        return good;
-    };
-    let packed = pack_stream(page, SH_PAGE_EXTENT_HEADER_LEN, fks);
-    let PageDone::Done = packed else {
-        return packed;
-    };
+    check_link(off)?;
+    check_extent(base, n)?;
+    pack_stream(page, SH_PAGE_EXTENT_HEADER_LEN, fks)?;
     let link = link_to(next == 0, off);
     put_header(page, SH_PAGE_EXTENT_VER, fks.len() as u16, link);
     put_extent(page, base, n);
-    PageDone::Done
+    Ok(())
 }

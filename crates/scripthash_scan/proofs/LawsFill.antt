@@ -32,10 +32,6 @@ module _ (taken last n : ℕ) (bs space : List ℕ) (q : QuickSum taken last 0 0
       short (record { numbers = take n space; taken = taken }) h summed_scan refl (omega (arith, length-take-le n space room))
       (omega (arith, summed_last)) e
 
--- a try that does nothing
-pub short_none : (top : ℕ) (out : List ℕ) (a : Answer Scan) → ShortRead 0 top out out a
-short_none top out a = unread refl refl
-
 -- a try with a limit is one at a reading of all
 pub short_quick : (told top n : ℕ) (bs out after : List ℕ) → n ≤ length out → ShortRead told top out after (scan n bs)
     → Quick told out after (decode_stream (length out) n bs)

@@ -1,16 +1,19 @@
 -- The longest form of some bytes: what is known of the bytes that were looked at, and what it tells. Assumes nothing.
-use Prim.Native.Nat.{ℕ, ◌+◌, ◌-◌, ◌≤◌, ◌<◌}
-use mathlib.Core.Bool.{Bool, false}
+use Prim.Native.Nat.{ℕ, ◌+◌, ◌-◌, ◌≤◌, ◌<◌, min}
+use mathlib.Core.Bool.{Bool, false, ◌&&◌}
 use mathlib.Core.List.{List}
 use mathlib.Core.Logic.{⊎_elim}
 use mathlib.Core.Path.{◌≡◌, sym, ◌∙◌}
+use native.Mathlib.Nat.{sub-zero}
 use native.Mathlib.Omega.{arith}
-use borrow.Author.Tests.{lt-leb}
+use native.Mathlib.Numerals.{add-one}
+use borrow.Author.Tests.{lt-leb, le-leb}
 use lib.ListN.{get_or}
 use Rattle.buffer.proofs.LawsOrder.{lt_or_ge}
 use Rattle.compact.specs.Uleb128.{goes_on}
 use Rattle.scripthash_scan.specs.Weights.{total_over, two_before, three_before, behind_two}
-use Rattle.scripthash_scan.specs.Weights.{behind_three, behind_four, two_go_on, three_go_on, five_go_on}
+use Rattle.scripthash_stream.proofs.LawsEncode.{and_no}
+use Rattle.scripthash_scan.specs.Weights.{behind_three, behind_four, two_go_on, three_go_on, five_go_on, in_a_row}
 use Rattle.scripthash_scan.specs.Weights.{Lacks, Longest}
 use Rattle.scripthash_scan.proofs.LawsTotals.{total_same}
 
@@ -28,14 +31,26 @@ looked_next buf p from i least most least' most' m so a b e x h k =
     rw same (a.1, λ (t : most' < 128). sym e ∙ lt-leb 128 m (omega arith)))
     (lt_or_ge x i)
 
--- behind the last byte
-pub looked_all : (buf : List ℕ) (p : ℕ → Bool) (from to least most : ℕ) → Looked buf p least most from to → 0 < least → most < 128
-    → Lacks buf p from to
-looked_all buf p from to least most so a b x h k = let w = so x h k in (omega (arith, w.0), w.1 b)
+-- the lesser of two bytes goes on where both do
+least_first : (a b : ℕ) → a ≤ b → goes_on a ≡ goes_on a && goes_on b
+least_first a b h =
+    ⊎_elim (λ (p : a < 128). rw (lt-leb 128 a p))
+    (λ (p : 128 ≤ a). rw (le-leb 128 a p, le-leb 128 b (omega arith))) (lt_or_ge a 128)
 
--- two ranges that adjoin
-pub lacks_join : (buf : List ℕ) (p : ℕ → Bool) (a b c : ℕ) → Lacks buf p a b → Lacks buf p b c → Lacks buf p a c
-lacks_join buf p a b c l m x h k = ⊎_elim (λ (r : x < b). l x h r) (λ (r : b ≤ x). m x r k) (lt_or_ge x b)
+least_second : (a b : ℕ) → b ≤ a → goes_on b ≡ goes_on a && goes_on b
+least_second a b h =
+    ⊎_elim (λ (p : b < 128). rw (lt-leb 128 b p, and_no (goes_on a)))
+    (λ (p : 128 ≤ b). rw (le-leb 128 b p, le-leb 128 a (omega arith))) (lt_or_ge b 128)
+
+least_goes_on : (a b : ℕ) → goes_on (min a b) ≡ goes_on a && goes_on b
+least_goes_on a b =
+    ⊎_elim (λ (p : a < b). let e : min a b ≡ a = omega arith in rw e (least_first a b (omega arith)))
+    (λ (p : b ≤ a). let e : min a b ≡ b = omega arith in rw e (least_second a b p)) (lt_or_ge a b)
+
+-- one byte more in a row
+pub row_next : (bs : List ℕ) (i k least next : ℕ) → goes_on least ≡ in_a_row k bs i → next ≡ min least (get_or bs (i - k) 0)
+    → goes_on next ≡ in_a_row (k + 1) bs i
+row_next bs i k least next h e = rw (e, add-one k, ← h) (least_goes_on least (get_or bs (i - k) 0))
 
 -- what holds at no place holds behind none
 behind : (q : ℕ → Bool) (from to : ℕ) → q from ≡ false → ((i : ℕ) → from ≤ i → i < to → q (i + 1) ≡ false) → (i : ℕ) → from ≤ i → i ≤ to
@@ -61,14 +76,25 @@ module _ (buf : List ℕ) (i : ℕ) where
   three_behind : three_before buf (i + 1) ≡ three_go_on buf i
   three_behind = rw (at_1, at_2, at_3)
 
--- where one byte before a place doesn't go on, neither two nor three do
-pub none_before : (buf : List ℕ) (i : ℕ) → get_or buf (i - 1) 0 < 128 → (two_before buf i ≡ false) × (three_before buf i ≡ false)
-none_before buf i h = let e = lt-leb 128 (get_or buf (i - 1) 0) h in (rw e, rw e)
+-- bytes in a row, each by itself
+row_two : (buf : List ℕ) (i : ℕ) → in_a_row 2 buf i ≡ two_go_on buf i
+row_two buf i = rw (sub-zero i)
+
+row_three : (buf : List ℕ) (i : ℕ) → in_a_row 3 buf i ≡ three_go_on buf i
+row_three buf i = rw (sub-zero i)
+
+row_five : (buf : List ℕ) (i : ℕ) → in_a_row 5 buf i ≡ five_go_on buf i
+row_five buf i = rw (sub-zero i)
+
+-- what holds at no place, said otherwise
+lacks_same : (buf : List ℕ) (p q : ℕ → Bool) (from to : ℕ) → ((i : ℕ) → p i ≡ q i) → Lacks buf p from to → Lacks buf q from to
+lacks_same buf p q from to e l i h k = let w = l i h k in (w.0, sym (e i) ∙ w.1)
 
 module _ (buf : List ℕ) (from to : ℕ) where
   -- no form has more than two bytes
-  pub longest_two : Lacks buf (two_go_on buf) from to → two_before buf from ≡ false → Longest buf from to 2
-  longest_two l start =
+  pub longest_two : Lacks buf (in_a_row 2 buf) from to → two_before buf from ≡ false → Longest buf from to 2
+  longest_two row start =
+      let l = lacks_same buf (in_a_row 2 buf) (two_go_on buf) from to (row_two buf) row in
       let two = behind (two_before buf) from to start (λ i h k. two_behind buf i ∙ (l i h k).1) in
       record {
         each = λ i h k. ((l i h k).0, rw (l i h k).1);
@@ -77,8 +103,9 @@ module _ (buf : List ℕ) (from to : ℕ) where
       }
 
   -- more than three
-  pub longest_three : Lacks buf (three_go_on buf) from to → three_before buf from ≡ false → Longest buf from to 3
-  longest_three l start =
+  pub longest_three : Lacks buf (in_a_row 3 buf) from to → three_before buf from ≡ false → Longest buf from to 3
+  longest_three row start =
+      let l = lacks_same buf (in_a_row 3 buf) (three_go_on buf) from to (row_three buf) row in
       let three = behind (three_before buf) from to start (λ i h k. three_behind buf i ∙ (l i h k).1) in
       record {
         each = λ i h k. ((l i h k).0, rw (l i h k).1);
@@ -87,8 +114,10 @@ module _ (buf : List ℕ) (from to : ℕ) where
       }
 
   -- more than five
-  pub longest_five : Lacks buf (five_go_on buf) from to → Longest buf from to 5
-  longest_five l = record { each = l; two = λ m. absurd (omega arith); three = λ m. absurd (omega arith) }
+  pub longest_five : Lacks buf (in_a_row 5 buf) from to → Longest buf from to 5
+  longest_five row =
+      let l = lacks_same buf (in_a_row 5 buf) (five_go_on buf) from to (row_five buf) row in
+      record { each = l; two = λ m. absurd (omega arith); three = λ m. absurd (omega arith) }
 
 -- where no form has three bytes, no byte is behind two, as far as one looks; where none has four, none is behind three, nor behind four
 module _ (buf : List ℕ) (from to longest at : ℕ) (l : Longest buf from to longest) (h : from ≤ at) (k : at ≤ to) where

@@ -1,8 +1,8 @@
 // Where forms end: bytes below 128 are counted, many at a time in plain loops, of which the compiler makes loops over many bytes at a time,
 // and at last byte by byte.
-ghost use Rattle.std.specs.Prelude.{◌≡◌, ◌+◌, ◌*◌, ◌≤◌, ◌<◌, length};
+ghost use Rattle.std.specs.Prelude.{◌≡◌, ◌+◌, ◌*◌, ◌≤◌, ◌<◌, length, IfSome, sum_by};
 ghost use Rattle.scripthash_words.specs.Words.{end_one};
-ghost use Rattle.scripthash_scan.specs.Weights.{total_over, end_at};
+ghost use Rattle.scripthash_scan.specs.Weights.{total_over, end_at, Counts};
 
 // The most bytes that are looked at together: 15 rows of 16, so that a count of them fits a byte.
 const BLOCK: usize = 240;
@@ -17,11 +17,10 @@ struct Counted {
     left: usize,
 }
 
-// The same, and how many forms end in each 16 bytes, 16 where that isn't known, 0 where counting stops.
+// The same, and how many forms end in each 16 bytes.
 #[derive(Clone, Copy)]
 struct Counting {
-    at: usize,
-    left: usize,
+    counted: Counted,
     dense: usize,
 }
 
@@ -29,31 +28,16 @@ struct Counting {
 fn ended(b: u8) -> u8
     ensures { (result ≡ end_one b) × (result ≤ 1) }
 {
-    if b < 128 {
-        return 1;
-    }
-    0
-}
-
-// A count of forms.
-fn forms(count: u8) -> usize
-    ensures { result ≡ count }
-{
-    count as usize
+    u8::from(b < 128)
 }
 
 // How many forms end in at most 240 bytes.
-fn ends_in(buf: &[u8], from: usize, to: usize) -> u8
-    requires { (from ≤ to) × (to ≤ length buf.now) × (to ≤ from + 240) }
-    ensures { (total_over (end_at buf.now) from + result ≡ total_over (end_at buf.now) to) × (from + result ≤ to) }
+fn ends_in(bytes: &[u8]) -> u8
+    requires { length bytes.now ≤ 240 }
+    ensures sum { result ≡ sum_by end_one bytes.now }
+    ensures few { result ≤ length bytes.now }
 {
-    let mut count: u8 = 0;
-    let mut i = from;
-    while i < to {
-        count += ended(buf[i]);
-        i += 1;
-    }
-    count
+    bytes.iter().map(|b| ended(*b)).sum()
 }
 
 // How many forms end early in a stream, in 16 bytes of it; 0 where it is short.
@@ -61,24 +45,24 @@ pub fn ends_early(buf: &[u8]) -> usize {
     if buf.len() < 24 {
         return 0;
     }
-    forms(ends_in(buf, 8, 24))
+    usize::from(ends_in(&buf[8..24]))
 }
 
 // Counts forms that end from a place on, 240 bytes at a time, until fewer than 240 of those wanted are left; stops before where too few
 // bytes follow, or where forms of six bytes and more are met.
+#[tactic(auto, using(crate::proofs::LawsTotals::ends_between))]
 fn count_blocks(buf: &[u8], from: usize, want: usize) -> Counted
     requires { from ≤ length buf.now }
-    ensures { (total_over (end_at buf.now) from + want ≡ total_over (end_at buf.now) result.at + result.left)
-        × (from ≤ result.at)
-        × (result.at ≤ length buf.now) }
+    ensures { Counts buf.now from want result.at result.left }
 {
     let mut at = from;
     let mut left = want;
+    // How many blocks there are is told by the forms that end in them, so no range counts them.
     while BLOCK <= left {
         if buf.len() - at < BLOCK {
             return Counted { at, left };
         }
-        let count = forms(ends_in(buf, at, at + BLOCK));
+        let count = usize::from(ends_in(&buf[at..at + BLOCK]));
         if count < LEAST_ENDS {
             return Counted { at, left };
         }
@@ -100,14 +84,7 @@ fn step_of(left: usize, dense: usize) -> usize
     if 16 <= dense {
         return left / 16 * 16;
     }
-    let guess = left * 14 / dense;
-    if BLOCK <= guess {
-        return BLOCK;
-    }
-    if guess < 32 {
-        return 16;
-    }
-    guess / 16 * 16
+    (left * 14 / dense / 16 * 16).clamp(16, BLOCK)
 }
 
 // How many forms end in each 16 bytes, where so many end in a step.
@@ -115,110 +92,86 @@ fn density(count: usize, step: usize) -> usize
     requires { (count ≤ 240) × (0 < step) }
     ensures { result ≤ 16 }
 {
-    let dense = 16 * count / step;
-    if 16 < dense {
-        return 16;
-    }
-    dense
+    (16 * count / step).min(16)
 }
 
-// How dense to take forms where a step was too long: as dense as can be, or 0 where they were.
-fn shorter(dense: usize) -> usize
-    requires { dense ≤ 16 }
-    ensures { (result ≤ 16) × (0 < result → dense < result) }
+// Where a step was too long: the same place, and forms taken to be as dense as can be; none where they were.
+fn shorter(counted: Counted, dense: usize) -> Option<Counting>
+    ensures { IfSome result (λ c. (c.counted ≡ counted) × (c.dense ≡ 16) × (dense < 16)) }
 {
-    if dense < 16 {
-        return 16;
+    if 16 <= dense {
+        return None;
     }
-    0
+    Some(Counting { counted, dense: 16 })
 }
 
 // Counts forms that end in one step. Where the last of those left ends in it, or too few bytes follow, the next step is a shorter one, or
 // there is none; nor is there where forms of six bytes and more are met.
-fn stepped(buf: &[u8], at: usize, left: usize, dense: usize) -> Counting
-    requires { (at ≤ length buf.now) × (16 ≤ left) × (0 < dense) × (dense ≤ 16) }
-    ensures { (total_over (end_at buf.now) at + left ≡ total_over (end_at buf.now) result.at + result.left)
-        × (at ≤ result.at)
-        × (result.at ≤ length buf.now) × (result.dense ≤ 16) × (0 < result.dense → 32 * at + dense < 32 * result.at + result.dense) }
+#[tactic(auto, using(crate::proofs::LawsTotals::ends_between))]
+fn stepped(buf: &[u8], counted: Counted, dense: usize) -> Option<Counting>
+    requires { (counted.at ≤ length buf.now) × (16 ≤ counted.left) × (0 < dense) × (dense ≤ 16) }
+    ensures { IfSome result (λ c. Counts buf.now counted.at counted.left c.counted.at c.counted.left
+        × (0 < c.dense) × (c.dense ≤ 16) × (32 * counted.at + dense < 32 * c.counted.at + c.dense)) }
 {
-    let step = step_of(left, dense);
-    if buf.len() - at < step {
-        return Counting {
-            at,
-            left,
-            dense: shorter(dense),
-        };
+    let step = step_of(counted.left, dense);
+    if buf.len() - counted.at < step {
+        return shorter(counted, dense);
     }
-    let count = forms(ends_in(buf, at, at + step));
-    if left < count {
-        return Counting {
-            at,
-            left,
-            dense: shorter(dense),
-        };
+    let at = counted.at + step;
+    let count = usize::from(ends_in(&buf[counted.at..at]));
+    if counted.left < count || (counted.left == count && dense < 16) {
+        return shorter(counted, dense);
     }
-    if left == count {
-        if dense < 16 {
-            return Counting {
-                at,
-                left,
-                dense: 16,
-            };
-        }
+    let dense = density(count, step);
+    if dense < 3 {
+        return None;
     }
-    let next = density(count, step);
-    if next < 3 {
-        return Counting { at, left, dense: 0 };
-    }
-    Counting {
-        at: at + step,
-        left: left - count,
-        dense: next,
-    }
+    let left = counted.left - count;
+    Some(Counting {
+        counted: Counted { at, left },
+        dense,
+    })
 }
 
 // Counts forms that end from a place on, until fewer than 16 of those wanted are left; stops before where too few bytes follow, or where
 // forms of six bytes and more are met.
 fn count_forms(buf: &[u8], from: usize, want: usize) -> Counted
     requires { from ≤ length buf.now }
-    ensures { (total_over (end_at buf.now) from + want ≡ total_over (end_at buf.now) result.at + result.left)
-        × (from ≤ result.at)
-        × (result.at ≤ length buf.now) }
+    ensures { Counts buf.now from want result.at result.left }
 {
-    let mut at = from;
-    let mut left = want;
+    let mut counted = Counted {
+        at: from,
+        left: want,
+    };
     let mut dense: usize = 16;
-    while 16 <= left {
-        let next = stepped(buf, at, left, dense);
-        if next.dense == 0 {
-            return Counted { at, left };
-        }
-        at = next.at;
-        left = next.left;
+    // A step is as long as the forms before it tell, so no range counts the steps.
+    while 16 <= counted.left {
+        let Some(next) = stepped(buf, counted, dense) else {
+            return counted;
+        };
+        counted = next.counted;
         dense = next.dense;
     }
-    Counted { at, left }
+    counted
 }
 
-// The place behind so many forms from another place on, or 0 where the bytes end first or the forms are long.
-pub fn end_of(buf: &[u8], from: usize, want: usize) -> usize
+// The place behind so many forms from another place on, or none where the bytes end first or the forms are long.
+#[tactic(auto, using(crate::proofs::LawsTotals::total_next))]
+pub fn end_of(buf: &[u8], from: usize, want: usize) -> Option<usize>
     requires { from ≤ length buf.now }
-    ensures { 0 < result → (total_over (end_at buf.now) from + want ≡ total_over (end_at buf.now) result) × (from ≤ result)
-        × (result ≤ length buf.now) }
+    ensures { IfSome result (λ at. Counts buf.now from want at 0) }
 {
     let blocks = count_blocks(buf, from, want);
     let few = count_forms(buf, blocks.at, blocks.left);
-    let mut at = few.at;
+    if 16 <= few.left {
+        return None;
+    }
     let mut left = few.left;
-    if 16 <= left {
-        return 0;
-    }
-    while 0 < left {
-        if at == buf.len() {
-            return 0;
+    for at in few.at..buf.len() {
+        if left == 0 {
+            return Some(at);
         }
-        left -= forms(ended(buf[at]));
-        at += 1;
+        left -= usize::from(ended(buf[at]));
     }
-    at
+    if left == 0 { Some(buf.len()) } else { None }
 }

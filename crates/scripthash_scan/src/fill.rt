@@ -10,8 +10,8 @@ use crate::streams::SLAB_MOST;
 use scripthash_forms::{copy_fks, sum_forms};
 use scripthash_words::{fill_by_words, read_by_words};
 
-// From how many numbers on forms that differ in length are read by words; fewer take as long one by one.
-const WORDS: usize = 17;
+// The most numbers that are read form by form where lengths differ: more are read by words, and so few take as long one by one.
+const FEW: usize = 16;
 
 // The most numbers that are held in a shorter list on the stack, which is cleared sooner.
 const SHORT_LIST: usize = 64;
@@ -38,7 +38,7 @@ fn fill_singly(buf: &[u8], n: usize, out: &mut [u64])
 {
     let end = sum_forms(buf, 0, 0, n, out);
     if end.taken == 0 {
-        scripthash_stream::decode_in_two_passes(buf, n, out);
+        let _ = scripthash_stream::decode_in_two_passes(buf, n, out);
     }
 }
 
@@ -47,7 +47,7 @@ fn fill_all(buf: &[u8], n: usize, out: &mut [u64])
     requires { length out.old ≡ n }
     ensures { (s : Scan) → scan n buf.now ≡ accepted s → out.new ≡ s.numbers }
 {
-    if n < WORDS {
+    if n <= FEW {
         fill_singly(buf, n, out);
         return;
     }
@@ -74,30 +74,12 @@ fn read_through(buf: &[u8], n: usize, top: u64, space: &mut [u64], out: &mut [u6
     end.taken
 }
 
-// The same for 16 forms at most.
-fn read_few(buf: &[u8], n: usize, top: u64, out: &mut [u64]) -> usize
-    requires { (n ≤ 16) × (n ≤ length out.old) }
+// The same through a list on the stack that holds N numbers.
+fn read_held<const N: usize>(buf: &[u8], n: usize, top: u64, out: &mut [u64]) -> usize
+    requires { (N ≤ 256) × (n ≤ N) × (n ≤ length out.old) }
     ensures { ShortRead result top out.old out.new (scan n buf.now) }
 {
-    let mut space = [0u64; 16];
-    read_through(buf, n, top, &mut space, out)
-}
-
-// The same for 64 forms at most.
-fn read_some(buf: &[u8], n: usize, top: u64, out: &mut [u64]) -> usize
-    requires { (n ≤ 64) × (n ≤ length out.old) }
-    ensures { ShortRead result top out.old out.new (scan n buf.now) }
-{
-    let mut space = [0u64; 64];
-    read_through(buf, n, top, &mut space, out)
-}
-
-// The same for 256 forms at most.
-fn read_many(buf: &[u8], n: usize, top: u64, out: &mut [u64]) -> usize
-    requires { (n ≤ 256) × (n ≤ length out.old) }
-    ensures { ShortRead result top out.old out.new (scan n buf.now) }
-{
-    let mut space = [0u64; 256];
+    let mut space = [0u64; N];
     read_through(buf, n, top, &mut space, out)
 }
 
@@ -107,9 +89,9 @@ fn read_singly(buf: &[u8], n: usize, top: u64, out: &mut [u64]) -> usize
     ensures { ShortRead result top out.old out.new (scan n buf.now) }
 {
     if n <= SHORT_LIST {
-        return read_some(buf, n, top, out);
+        return read_held::<SHORT_LIST>(buf, n, top, out);
     }
-    read_many(buf, n, top, out)
+    read_held::<SLAB_MOST>(buf, n, top, out)
 }
 
 // The same for 256 forms at most, by words where there are some and their lengths differ. Each form has a byte at least.
@@ -120,8 +102,8 @@ pub fn read_forms(buf: &[u8], n: usize, top: u64, out: &mut [u64]) -> usize
     if buf.len() < n {
         return 0;
     }
-    if n < WORDS {
-        return read_few(buf, n, top, out);
+    if n <= FEW {
+        return read_held::<FEW>(buf, n, top, out);
     }
     let taken = read_by_words(buf, n, top, out);
     if 0 < taken {

@@ -6,6 +6,7 @@ mod fill;
 mod look;
 mod quick;
 mod streams;
+mod stretch;
 mod weigh;
 
 pub use fill::{fill_fk_delta_stream, read_short_stream};

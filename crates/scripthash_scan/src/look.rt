@@ -1,89 +1,50 @@
 // How long forms are: whether a byte is 0, and how many bytes in a row go on, over all bytes of a block at a time.
-ghost use Rattle.std.specs.Prelude.{◌≡◌, true, false, ◌≤◌, ◌<◌, length};
-ghost use Rattle.scripthash_scan.specs.Weights.{Lacks, two_go_on, three_go_on, five_go_on, two_before, three_before, Longest};
+ghost use Rattle.std.specs.Prelude.{◌≡◌, true, false, ◌+◌, ◌≤◌, ◌<◌, length, IfSome};
+ghost use Rattle.compact.specs.Uleb128.{goes_on};
+ghost use Rattle.scripthash_scan.specs.Weights.{Lacks, in_a_row, two_before, three_before, Longest};
 
-use crate::quick::{larger, smaller};
+use crate::stretch::Stretch;
 
-// No byte is 0, and none goes on where the one before it does.
-fn look_two(buf: &[u8], from: usize, to: usize) -> bool
-    requires { (4 ≤ from) × (from ≤ to) × (to ≤ length buf.now) }
-    ensures { result ≡ true → Lacks buf.now (two_go_on buf.now) from to }
+// The least of the N bytes up to a place, which goes on where each of them does.
+fn least_of<const N: usize>(buf: &[u8], i: usize) -> u8
+    requires { (N ≤ i + 1) × (i < length buf.now) }
+    ensures { goes_on result ≡ in_a_row N buf.now i }
 {
     let mut least: u8 = 255;
-    let mut most: u8 = 0;
-    let mut i = from;
-    while i < to {
-        let b = buf[i];
-        least = smaller(least, b);
-        most = larger(most, smaller(b, buf[i - 1]));
-        i += 1;
+    for k in 0..N {
+        least = least.min(buf[i - k]);
     }
-    if least == 0 {
-        return false;
-    }
-    most < 128
+    least
 }
 
-// The same where the two before it do.
-fn look_three(buf: &[u8], from: usize, to: usize) -> bool
-    requires { (4 ≤ from) × (from ≤ to) × (to ≤ length buf.now) }
-    ensures { result ≡ true → Lacks buf.now (three_go_on buf.now) from to }
-{
-    let mut least: u8 = 255;
-    let mut most: u8 = 0;
-    let mut i = from;
-    while i < to {
-        let b = buf[i];
-        least = smaller(least, b);
-        most = larger(most, smaller(smaller(b, buf[i - 1]), buf[i - 2]));
-        i += 1;
-    }
-    if least == 0 {
-        return false;
-    }
-    most < 128
-}
-
-// The same where the four before it do.
-fn look_five(buf: &[u8], from: usize, to: usize) -> bool
-    requires { (4 ≤ from) × (from ≤ to) × (to ≤ length buf.now) }
-    ensures { result ≡ true → Lacks buf.now (five_go_on buf.now) from to }
-{
-    let mut least: u8 = 255;
-    let mut most: u8 = 0;
-    let mut i = from;
-    while i < to {
-        let b = buf[i];
-        let three = smaller(smaller(b, buf[i - 1]), buf[i - 2]);
-        least = smaller(least, b);
-        most = larger(most, smaller(smaller(three, buf[i - 3]), buf[i - 4]));
-        i += 1;
-    }
-    if least == 0 {
-        return false;
-    }
-    most < 128
-}
-
-// The bytes of the longest form as far as it matters, 2, 3 or 5, and no less than those of the forms before, or 0 where a byte is 0 or a
-// form has more than five bytes.
-pub fn longest_form(buf: &[u8], from: usize, to: usize, before: usize) -> usize
-    requires { (4 ≤ from) × (from ≤ to) × (to ≤ length buf.now) × (before ≤ 2 → two_before buf.now from ≡ false)
-        × (before ≤ 3 → three_before buf.now from ≡ false) }
-    ensures { 0 < result → Longest buf.now from to result }
-{
-    if before <= 2 {
-        if look_two(buf, from, to) {
-            return 2;
+impl Stretch<'_> {
+    // No byte is 0, and no N of them in a row go on.
+    fn look<const N: usize>(&self) -> bool
+        requires { N ≤ 5 }
+        ensures { result ≡ true → Lacks self.now.buf.now (in_a_row N self.now.buf.now) self.now.from self.now.to }
+    {
+        let mut least: u8 = 255;
+        let mut most: u8 = 0;
+        for i in self.from..self.to {
+            least = least.min(self.buf[i]);
+            most = most.max(least_of::<N>(self.buf, i));
         }
+        0 < least && most < 128
     }
-    if before <= 3 {
-        if look_three(buf, from, to) {
-            return 3;
+
+    // The bytes of the longest form as far as it matters, 2, 3 or 5, and no less than those of the forms before, or none where a byte is 0 or
+    // a form has more than five bytes.
+    pub fn longest_form(&self, before: usize) -> Option<usize>
+        requires { (before ≤ 2 → two_before self.now.buf.now self.now.from ≡ false)
+            × (before ≤ 3 → three_before self.now.buf.now self.now.from ≡ false) }
+        ensures { IfSome result (Longest self.now.buf.now self.now.from self.now.to) }
+    {
+        if before <= 2 && self.look::<2>() {
+            return Some(2);
         }
+        if before <= 3 && self.look::<3>() {
+            return Some(3);
+        }
+        if self.look::<5>() { Some(5) } else { None }
     }
-    if look_five(buf, from, to) {
-        return 5;
-    }
-    0
 }

@@ -1,5 +1,5 @@
 // Streams read or scanned in one pass: all bytes together where each is a form, or where there are many, else form by form.
-ghost use Rattle.std.specs.Prelude.{◌≡◌, true, ◌&&◌, ◌≤◌, length};
+ghost use Rattle.std.specs.Prelude.{◌≡◌, true, ◌&&◌, ◌≤◌, length, sum};
 ghost use Rattle.error.specs.Refusal.{answered};
 ghost use Rattle.compact.specs.Uleb128.{goes_on};
 ghost use Rattle.scripthash_stream.specs.Stream.{scan, end_from, decode_stream};
@@ -8,7 +8,7 @@ ghost use Rattle.scripthash_forms.specs.Quick.{OneByteForms, Quick, QuickEnd};
 use crate::fill::read_forms;
 use crate::streams::{PARTS_MOST, SLAB_MOST};
 use scripthash_forms::{StreamEnd, decode_parts, sum_forms};
-use scripthash_stream::{BIT_63, MAX_OFFERED, wide};
+use scripthash_stream::{BIT_63, MAX_OFFERED};
 
 // From how many numbers on a scan weighs forms together.
 const MANY: usize = 64;
@@ -19,56 +19,23 @@ const MORE: usize = 40;
 // From how many numbers on it does so where forms are shorter.
 const SOME: usize = 30;
 
-// The larger of two bytes.
-pub fn larger(a: u8, b: u8) -> u8
-    ensures { (a ≤ result) × (b ≤ result) }
-{
-    if a < b {
-        return b;
-    }
-    a
-}
-
-// The smaller of two bytes, which goes on where both do.
-pub fn smaller(a: u8, b: u8) -> u8
-    ensures { (result ≤ a) × (result ≤ b) × (goes_on result ≡ goes_on a && goes_on b) }
-{
-    if a < b {
-        return a;
-    }
-    b
-}
-
 // Each of the first n bytes is a form by itself, and none is 0: their least and their greatest tell it, whatever comes first, so that many
 // bytes are looked at at a time.
 pub fn one_byte_forms(buf: &[u8], n: usize) -> bool
     ensures { result ≡ true → OneByteForms buf.now n }
 {
-    if n == 0 {
-        return false;
-    }
-    if MAX_OFFERED < n {
-        return false;
-    }
-    if buf.len() < n {
-        return false;
-    }
-    if 128 <= buf[0] {
+    if n == 0 || MAX_OFFERED < n || buf.len() < n || 128 <= buf[0] {
         return false;
     }
     let mut low: u8 = 255;
     let mut high: u8 = 0;
-    let mut k: usize = 0;
-    while k < n {
+    // `all` takes two to three times as long: it stops at the first byte that is no form, so it looks at one at a time.
+    for k in 0..n {
         let b = buf[k];
-        low = smaller(low, b);
-        high = larger(high, b);
-        k += 1;
+        low = low.min(b);
+        high = high.max(b);
     }
-    if low == 0 {
-        return false;
-    }
-    high < 128
+    0 < low && high < 128
 }
 
 // Writes the sums of n forms of one byte each to the start of out, and tells their bytes.
@@ -78,16 +45,15 @@ pub fn sum_bytes(buf: &[u8], n: usize, out: &mut [u64]) -> usize
         × Quick result out.old out.new (decode_stream (length out.old) n buf.now) }
 {
     let mut sum: u64 = 0;
-    let mut k: usize = 0;
-    while k < n {
-        sum += wide(buf[k]);
+    for k in 0..n {
+        sum += u64::from(buf[k]);
         out[k] = sum;
-        k += 1;
     }
     n
 }
 
 // Reads a stream of n numbers in one pass, where that is quicker than two: tells the bytes that they take, or 0 and leaves out.
+#[tactic(auto, using(scripthash_forms::proofs::LawsTries::quick_none))]
 pub fn decode_quickly(buf: &[u8], n: usize, out: &mut [u64]) -> usize
     ensures { Quick result out.old out.new (decode_stream (length out.old) n buf.now) }
 {
@@ -105,27 +71,26 @@ pub fn decode_quickly(buf: &[u8], n: usize, out: &mut [u64]) -> usize
     0
 }
 
+// The sum of some bytes.
+fn total(bytes: &[u8]) -> u64
+    requires { length bytes.now ≤ 65535 }
+    ensures { result ≡ sum bytes.now }
+{
+    bytes.iter().map(|b| u64::from(*b)).sum()
+}
+
 // The sum of n forms of one byte each: the last number of their stream.
 pub fn sum_of_bytes(buf: &[u8], n: usize) -> u64
     requires { OneByteForms buf.now n }
     ensures { QuickEnd n result (answered (end_from 0) (scan n buf.now)) }
 {
-    let mut sum: u64 = 0;
-    let mut k: usize = 0;
-    while k < n {
-        sum += wide(buf[k]);
-        k += 1;
-    }
-    sum
+    total(&buf[0..n])
 }
 
 // Whether forms of one byte and of two are mixed in 16 bytes, of which so many end forms: read one by one, their lengths are often
 // mispredicted.
 fn mixed(ends: usize) -> bool {
-    if ends <= 8 {
-        return false;
-    }
-    ends < 16
+    8 < ends && ends < 16
 }
 
 // Whether a stream of n numbers is worth weighing: it is long, or a third of its early bytes end forms, or it is short and its forms are
@@ -158,8 +123,7 @@ pub fn scan_quickly(buf: &[u8], n: usize) -> StreamEnd
         };
     }
     if weighs(buf, n) {
-        let end = crate::weigh::scan_by_weights(buf, n);
-        if 0 < end.taken {
+        if let Some(end) = crate::weigh::scan_by_weights(buf, n) {
             return end;
         }
     }

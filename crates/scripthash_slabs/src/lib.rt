@@ -5,7 +5,7 @@ mod class;
 mod payload;
 
 pub use class::{
-    SH_MEGAKEY_MIN_FKS, SlabClass, slab_class_for_n_fks, slab_class_for_n_fks_with_slack,
+    SH_MEGAKEY_MIN_FKS, slab_class_for_n_fks, slab_class_for_n_fks_with_slack,
     slab_class_for_packed_len,
 };
 pub use payload::{SlabPayload, decode_slab_payload_into, encode_slab_payload_into};

@@ -44,6 +44,10 @@ zeros_stream top prev [] h = refl
 zeros_stream top prev (n ∷ ns) h =
     rw (zeros_append (shortest (n - prev)) (stream_from n ns), zeros_shortest (n - prev) (omega arith), zeros_stream top n ns h.2)
 
+-- the zeros up to an index are those up to an earlier one, and those of the part between
+pub zeros_part : (bs : List ℕ) (i n j : ℕ) → i + n ≡ j → zeros (take j bs) ≡ zeros (take i bs) + zeros (take n (drop i bs))
+zeros_part bs i n j e = rw (← e, take-add i n bs) (zeros_append (take i bs) (take n (drop i bs)))
+
 -- one byte more
 pub zeros_next : (bs : List ℕ) (i : ℕ) → i < length bs → zeros (take (i + 1) bs) ≡ zeros (take i bs) + one (eqb (get_or bs i 0) 0)
 unfolding zeros

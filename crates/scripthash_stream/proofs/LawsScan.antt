@@ -73,6 +73,12 @@ next_accepted prev bs r e =
           len_within = omega (arith, a.len_within);
         }
 
+-- the number that was read at an offset ends within the bytes
+pub next_inside : (bs : List ℕ) (off prev : ℕ) (r : Reading) → off ≤ length bs → next_number prev (drop off bs) ≡ accepted r
+    → off + r.len ≤ length bs
+next_inside bs off prev r h is =
+    let within = simp length-drop at (next_accepted prev (drop off bs) r is).len_within in omega arith
+
 -- a difference that reads gives the next number
 pub next_is : (prev : ℕ) (bs : List ℕ) (d : Reading) → read_uleb bs ≡ accepted d → next_number prev bs ≡ stored_number prev d
 unfolding next_number

@@ -5,3 +5,4 @@ pub mod LawsDecode
 pub mod LawsEncode
 pub mod LawsLent
 pub mod LawsPadded
+pub mod LawsFill

@@ -6,43 +6,37 @@ ghost use Rattle.buffer.specs.Bytes.{overwrite};
 ghost use Rattle.scripthash_stream.specs.Stream.{Rising, stream, stream_len, judged, encode_stream, after_encode};
 ghost use Rattle.scripthash_stream.specs.Answers.{bytes_answer};
 
-use crate::stream::{BIT_63, StreamBytes};
+use crate::stream::BIT_63;
+use error::Refusal;
 
 // The length of the form that the number fk takes behind prev, or its refusal.
-fn offered_number(prev: u64, fk: u64) -> StreamBytes
+fn offered_number(prev: u64, fk: u64) -> Result<usize, Refusal>
     requires { prev < 2 ^ 63 }
     ensures { bytes_answer result ≡ judged prev (fk ∷ []) (accepted (uleb_len (fk - prev))) }
 {
     if fk <= prev {
         if prev == 0 {
-            return StreamBytes::Refused(error::OFFERED_FIRST_ZERO);
+            return Err(Refusal::OfferedFirstZero);
         }
-        return StreamBytes::Refused(error::OFFERED_NOT_RISING);
+        return Err(Refusal::OfferedNotRising);
     }
     if BIT_63 <= fk {
-        return StreamBytes::Refused(error::OFFERED_BIT_63);
+        return Err(Refusal::OfferedBit63);
     }
-    StreamBytes::Bytes(compact::uleb128_len(fk - prev))
+    Ok(compact::uleb128_len(fk - prev))
 }
 
 // Judges an offered list number by number, and measures its stream.
-fn measure_fks(fks: &[u64]) -> StreamBytes
+fn measure_fks(fks: &[u64]) -> Result<usize, Refusal>
     ensures { bytes_answer result ≡ judged 0 fks.now (accepted (stream_len fks.now)) }
 {
     let mut prev: u64 = 0;
     let mut len: usize = 0;
-    let mut k: usize = 0;
-    while k < fks.len() {
-        let fk = fks[k];
-        let got = offered_number(prev, fk);
-        let StreamBytes::Bytes(more) = got else {
-            return got;
-        };
-        len += more;
+    for &fk in fks {
+        len += offered_number(prev, fk)?;
         prev = fk;
-        k += 1;
     }
-    StreamBytes::Bytes(len)
+    Ok(len)
 }
 
 // Writes the shortest form of d at an offset of out, and tells its length. Forms of one byte and of two take short paths.
@@ -70,29 +64,23 @@ pub fn put_fks(out: &mut [u8], fks: &[u64])
 {
     let mut prev: u64 = 0;
     let mut off: usize = 0;
-    let mut k: usize = 0;
-    while k < fks.len() {
-        let fk = fks[k];
+    for &fk in fks {
         off += put_form(out, off, fk - prev);
         prev = fk;
-        k += 1;
     }
 }
 
 // Writes the stream of an offered list to the start of out and leaves the rest, or leaves all of out where the list is refused or
 // doesn't fit: one pass that judges and measures, and one that writes.
-pub fn encode_fk_delta_stream_into(out: &mut [u8], fks: &[u64]) -> StreamBytes
+pub fn encode_fk_delta_stream_into(out: &mut [u8], fks: &[u64]) -> Result<usize, Refusal>
     ensures answer { bytes_answer result ≡ encode_stream (length out.old) fks.now }
     ensures bytes { out.new
         ≡ after_encode out.old fks.now (encode_stream (length out.old) fks.now) }
 {
-    let got = measure_fks(fks);
-    let StreamBytes::Bytes(len) = got else {
-        return got;
-    };
+    let len = measure_fks(fks)?;
     if out.len() < len {
-        return StreamBytes::Refused(error::DOES_NOT_FIT);
+        return Err(Refusal::DoesNotFit);
     }
     put_fks(out, fks);
-    StreamBytes::Bytes(len)
+    Ok(len)
 }

@@ -1,11 +1,10 @@
 // Streams of rising numbers: the first number, then the differences, each as a ULEB128 form.
 ghost use Rattle.std.specs.Prelude.{◌≡◌, ◌^◌, ◌≤◌, ◌<◌, length, drop};
-ghost use Rattle.error.specs.Refusal.{accepted, answered, refusal_of};
+ghost use Rattle.error.specs.Refusal.{accepted, answered};
 ghost use Rattle.buffer.specs.Bytes.{overwrite};
 ghost use Rattle.scripthash_stream.specs.Stream.{Scan, stored_number, next_number, end_from, scan, decode_stream, after_decode};
-ghost use Rattle.scripthash_stream.specs.Answers.{next_answer, scan_answer, bytes_answer, stream_read_answer};
+ghost use Rattle.scripthash_stream.specs.Answers.{next_answer, scan_answer, bytes_answer};
 
-use compact::ReadUleb128;
 use error::Refusal;
 
 // The most numbers that a slab, a page or a load is offered.
@@ -14,161 +13,90 @@ pub const MAX_OFFERED: usize = 65535;
 // Bit 63, which no number of a stream has.
 pub const BIT_63: u64 = 0x8000_0000_0000_0000;
 
-// The next number of a stream and the length of its form, or a refusal.
-#[derive(Clone, Copy)]
-pub enum NextFk {
-    Number { fk: u64, len: usize },
-    Refused(Refusal),
+// The next number of a stream and the length of its form.
+#[derive(Clone, Copy, Debug, PartialEq, Eq)]
+pub struct NextFk {
+    pub fk: u64,
+    pub len: usize,
 }
 
-// What scanning a stream answers: how many bytes it takes and its last number, 0 where it has none, or a refusal.
-#[derive(Clone, Copy)]
-pub enum ScanStream {
-    Scanned { taken: usize, last: u64 },
-    Refused(Refusal),
+// What scanning a stream tells: how many bytes it takes and its last number, 0 where it has none.
+#[derive(Clone, Copy, Debug, PartialEq, Eq)]
+pub struct Scanned {
+    pub taken: usize,
+    pub last: u64,
 }
 
-// What writing or reading a stream answers: how many bytes it takes, or a refusal.
-#[derive(Clone, Copy)]
-pub enum StreamBytes {
-    Bytes(usize),
-    Refused(Refusal),
-}
-
-// What reading a stream tells: how many bytes it takes and how many of its numbers are padded, or a refusal.
-#[derive(Clone, Copy)]
-pub enum StreamRead {
-    Read { taken: usize, padded: usize },
-    Refused(Refusal),
-}
-
-impl NextFk {
-    // The refusal's number, and 0 of another answer.
-    pub fn refusal(self) -> Refusal
-        ensures { result ≡ refusal_of (next_answer self) }
-    {
-        match self {
-            NextFk::Number { fk: _, len: _ } => 0,
-            NextFk::Refused(number) => number,
-        }
-    }
-}
-
-impl ScanStream {
-    // The refusal's number, and 0 of another answer.
-    pub fn refusal(self) -> Refusal
-        ensures { result ≡ refusal_of (scan_answer self) }
-    {
-        match self {
-            ScanStream::Scanned { taken: _, last: _ } => 0,
-            ScanStream::Refused(number) => number,
-        }
-    }
-}
-
-impl StreamBytes {
-    // The refusal's number, and 0 of another answer.
-    pub fn refusal(self) -> Refusal
-        ensures { result ≡ refusal_of (bytes_answer self) }
-    {
-        match self {
-            StreamBytes::Bytes(_) => 0,
-            StreamBytes::Refused(number) => number,
-        }
-    }
-}
-
-impl StreamRead {
-    // The refusal's number, and 0 of another answer.
-    pub fn refusal(self) -> Refusal
-        ensures { result ≡ refusal_of (stream_read_answer self) }
-    {
-        match self {
-            StreamRead::Read {
-                taken: _,
-                padded: _,
-            } => 0,
-            StreamRead::Refused(number) => number,
-        }
-    }
+// What reading a stream tells: how many bytes it takes and how many of its numbers are padded.
+#[derive(Clone, Copy, Debug, PartialEq, Eq)]
+pub struct StreamRead {
+    pub taken: usize,
+    pub padded: usize,
 }
 
 // A byte as a difference.
 pub fn wide(b: u8) -> u64
     ensures { result ≡ b }
 {
-    b as u64
+    u64::from(b)
 }
 
 // The number that the stored difference d, whose form has a length, gives behind prev.
-fn stored_number(prev: u64, d: u64, len: usize) -> NextFk
+fn stored_number(prev: u64, d: u64, len: usize) -> Result<NextFk, Refusal>
     requires { prev < 2 ^ 63 }
     ensures { next_answer result ≡ stored_number prev (record { value = d; len = len }) }
 {
     if d == 0 {
         if prev == 0 {
-            return NextFk::Refused(error::STORED_FIRST_ZERO);
+            return Err(Refusal::StoredFirstZero);
         }
-        return NextFk::Refused(error::STORED_DIFFERENCE_ZERO);
+        return Err(Refusal::StoredDifferenceZero);
     }
-    if 0xffff_ffff_ffff_ffff - prev < d {
-        return NextFk::Refused(error::STORED_SUM_OVERFLOW);
+    let Some(fk) = prev.checked_add(d) else {
+        return Err(Refusal::StoredSumOverflow);
+    };
+    if BIT_63 <= fk {
+        return Err(Refusal::StoredBit63);
     }
-    if BIT_63 <= prev + d {
-        return NextFk::Refused(error::STORED_BIT_63);
-    }
-    NextFk::Number { fk: prev + d, len }
+    Ok(NextFk { fk, len })
 }
 
 // The number at an offset of a stream, behind prev. Forms of one byte and of two take short paths.
-fn next_fk(buf: &[u8], off: usize, prev: u64) -> NextFk
+fn next_fk(buf: &[u8], off: usize, prev: u64) -> Result<NextFk, Refusal>
     requires { (off ≤ length buf.now) × (prev < 2 ^ 63) }
     ensures { next_answer result ≡ next_number prev (drop off buf.now) }
 {
     if off < buf.len() {
-        let d = wide(buf[off]);
+        let d = u64::from(buf[off]);
         if d < 128 {
             return stored_number(prev, d, 1);
         }
         if off + 1 < buf.len() {
-            let e = wide(buf[off + 1]);
+            let e = u64::from(buf[off + 1]);
             if e < 128 {
                 return stored_number(prev, d % 128 + 128 * e, 2);
             }
         }
     }
-    let got = compact::read_uleb128(&buf[off..]);
-    let ReadUleb128::Value {
-        value,
-        len,
-        shortest: _,
-    } = got
-    else {
-        return NextFk::Refused(got.refusal());
-    };
-    stored_number(prev, value, len)
+    let form = compact::read_uleb128(&buf[off..])?;
+    stored_number(prev, form.value, form.len)
 }
 
 // Scans a stream of n numbers at the start of buf number by number: checks each, and tells where the stream ends.
-pub fn scan_by_number(buf: &[u8], n: usize) -> ScanStream
+pub fn scan_by_number(buf: &[u8], n: usize) -> Result<Scanned, Refusal>
     ensures { scan_answer result ≡ answered (end_from 0) (scan n buf.now) }
 {
     let mut prev: u64 = 0;
     let mut off: usize = 0;
-    let mut k: usize = 0;
-    while k < n {
-        let got = next_fk(buf, off, prev);
-        let NextFk::Number { fk, len } = got else {
-            return ScanStream::Refused(got.refusal());
-        };
-        prev = fk;
-        off += len;
-        k += 1;
+    for _ in 0..n {
+        let next = next_fk(buf, off, prev)?;
+        prev = next.fk;
+        off += next.len;
     }
-    ScanStream::Scanned {
+    Ok(Scanned {
         taken: off,
         last: prev,
-    }
+    })
 }
 
 // Writes the n numbers of a stream to the start of out; where the stream doesn't scan, it stops at the first number that it can't read.
@@ -179,32 +107,26 @@ fn fill_fks(buf: &[u8], n: usize, out: &mut [u64])
 {
     let mut prev: u64 = 0;
     let mut off: usize = 0;
-    let mut k: usize = 0;
-    while k < n {
-        let got = next_fk(buf, off, prev);
-        let NextFk::Number { fk, len } = got else {
+    for k in 0..n {
+        let Ok(next) = next_fk(buf, off, prev) else {
             return;
         };
-        out[k] = fk;
-        prev = fk;
-        off += len;
-        k += 1;
+        out[k] = next.fk;
+        prev = next.fk;
+        off += next.len;
     }
 }
 
 // Reads a stream of n numbers at the start of buf into the start of out: one pass that checks, and one that writes.
-pub fn decode_in_two_passes(buf: &[u8], n: usize, out: &mut [u64]) -> StreamBytes
+pub fn decode_in_two_passes(buf: &[u8], n: usize, out: &mut [u64]) -> Result<usize, Refusal>
     ensures answer { bytes_answer result ≡ answered (λ s. s.taken) (decode_stream (length out.old) n buf.now) }
     ensures list { out.new
         ≡ after_decode out.old (decode_stream (length out.old) n buf.now) }
 {
-    let got = scan_by_number(buf, n);
-    let ScanStream::Scanned { taken, last: _ } = got else {
-        return StreamBytes::Refused(got.refusal());
-    };
+    let scanned = scan_by_number(buf, n)?;
     if out.len() < n {
-        return StreamBytes::Refused(error::LIST_TOO_SHORT);
+        return Err(Refusal::ListTooShort);
     }
     fill_fks(buf, n, out);
-    StreamBytes::Bytes(taken)
+    Ok(scanned.taken)
 }

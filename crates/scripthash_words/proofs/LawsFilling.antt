@@ -4,15 +4,15 @@ use mathlib.Core.Bool.{true, false}
 use mathlib.Core.List.{List, [], ◌∷◌, ◌++◌, append-nil}
 use mathlib.Core.Logic.{⊎_elim}
 use mathlib.Core.Path.{◌≡◌, refl, sym, ap, ◌∙◌}
-use native.Mathlib.Nat.{zero-add, add-zero, sub-zero}
+use native.Mathlib.Nat.{zero-add, add-zero}
 use native.Mathlib.Omega.{arith}
 use borrow.Author.Tests.{lt-leb}
-use lib.ListN.{length, take, drop, get_or, set, length-drop, length-append}
+use lib.ListN.{length, take, drop, get_or, set, length-drop, length-append, take-append-drop}
 use lib.Seq.{get_or-drop, drop-drop, take-add, length-take-le, take-append-le, take-take, take_at, drop_at}
 use Rattle.error.specs.Refusal.{Answer, accepted}
 use Rattle.error.proofs.LawsAnswer.{accepted_inj}
 use Rattle.buffer.specs.Bytes.{overwrite}
-use Rattle.buffer.proofs.LawsBytes.{overwrite_nil, overwrite_step}
+use Rattle.buffer.proofs.LawsBytes.{overwrite_nil, overwrite_step, overwrite_part}
 use Rattle.buffer.proofs.LawsOverwrite.{overwrite_adjoin}
 use Rattle.buffer.specs.LittleEndian.{AreBytes}
 use Rattle.buffer.proofs.LawsOrder.{lt_or_ge}
@@ -41,10 +41,20 @@ unfolding running_from last_from
 sums_append p [] ys = refl
 sums_append p (x ∷ xs) ys = ap (λ (l : List ℕ). (p + x) ∷ l) (sums_append (p + x) xs ys)
 
-length_sums : (p : ℕ) (xs : List ℕ) → length (running_from p xs) ≡ length xs
+pub length_sums : (p : ℕ) (xs : List ℕ) → length (running_from p xs) ≡ length xs
 unfolding running_from
 length_sums p [] = refl
 length_sums p (x ∷ xs) = ap suc (length_sums (p + x) xs)
+
+pub length_values : (xs : List ℕ) → length (values_in xs) ≡ length xs
+unfolding values_in
+length_values [] = refl
+length_values (x ∷ xs) = ap suc (length_values xs)
+
+-- numbers written to a lent part of a list are written to the list
+pub filled_part : (out part ys : List ℕ) (at n : ℕ) → at + n ≤ length out → length ys ≤ n → part ≡ overwrite (take n (drop at out)) 0 ys
+    → take at out ++ (part ++ drop n (drop at out)) ≡ overwrite out at ys
+filled_part out part ys at n h l e = rw e (rw (add-zero at) at (overwrite_part out at n 0 ys h (omega arith)))
 
 -- the first words of all are the first collected, and the first of those behind them
 first_words : (ws rest : List ℕ) (starts left m : ℕ) → starts ≤ length ws → m ≤ starts → m ≤ left → (m < starts → m ≡ left)
@@ -66,20 +76,20 @@ first_words ws rest starts left m r p q e =
 
 -- a part whose values were taken out and summed up
 pub filling_part : (bs : List ℕ) (i i' starts m left prev last at : ℕ) (ws vs out out' : List ℕ) → Found bs i i' starts ws
-    → starts ≤ length ws → length vs ≡ length ws → m ≤ starts → m ≤ left → (m < starts → m ≡ left) → at + left ≤ length out
-    → AllEnded (take m ws) × (take m vs ≡ values_in (take m ws))
-    → out' ≡ overwrite out at (running_from prev (take m vs)) → last ≡ last_from prev (running_from prev (take m vs))
+    → starts ≤ length ws → m ≤ starts → m ≤ left → (m < starts → m ≡ left) → at + left ≤ length out
+    → AllEnded (take m ws) × (vs ≡ values_in (take m ws))
+    → out' ≡ overwrite out at (running_from prev vs) → last ≡ last_from prev (running_from prev vs)
     → Filling bs i prev left out at i' last (left - m) out' (at + m)
-filling_part bs i i' starts m left prev last at ws vs out out' c r l p q e room w o s =
+filling_part bs i i' starts m left prev last at ws vs out out' c r p q e room w o s =
     let all : take left (words_at bs i) ≡ take m ws ++ take (left - m) (words_at bs i') =
     ap (take left) c.whole ∙ first_words ws (words_at bs i') starts left m r p q e in
     let more = values_in (take (left - m) (words_at bs i')) in
-    let xs = running_from prev (take m vs) in
-    let size : length xs ≡ m = length_sums prev (take m vs) ∙ length-take-le m vs (omega (arith, l)) in
+    let xs = running_from prev vs in
+    let size : length xs ≡ m = length_sums prev vs ∙ ap length w.1 ∙ length_values (take m ws) ∙ length-take-le m ws (omega arith) in
     let sums : running_from prev (values_in (take left (words_at bs i))) ≡ xs ++ running_from last more =
     ap (λ (z : List ℕ). running_from prev (values_in z)) all ∙ ap (running_from prev) (values_append (take m ws) (take (left - m)
     (words_at bs i')))
-    ∙ ap (λ (z : List ℕ). running_from prev (z ++ more)) (sym w.1) ∙ sums_append prev (take m vs) more
+    ∙ ap (λ (z : List ℕ). running_from prev (z ++ more)) (sym w.1) ∙ sums_append prev vs more
     ∙ ap (λ (z : ℕ). xs ++ running_from z more) (sym s) in
     let place : at + length xs ≡ at + m = ap (λ (z : ℕ). at + z) size in
     record {
@@ -87,17 +97,6 @@ filling_part bs i i' starts m left prev last at ws vs out out' c r l p q e room 
       writes = ap (λ (z : List ℕ). overwrite z (at + m) (running_from last more)) o
           ∙ (rw place at (overwrite_adjoin out at xs (running_from last more) (omega (arith, size)))) ∙ ap (overwrite out at) (sym sums);
     }
-
--- nothing done
-pub filling_start : (bs : List ℕ) (i sum left : ℕ) (out : List ℕ) (at : ℕ) → Filling bs i sum left out at i sum (left - 0) out (at + 0)
-filling_start bs i sum left out at = rw (sub-zero left, add-zero at) (record { ends = λ a. a; writes = refl })
-
--- one part after another
-pub filling_more : (bs : List ℕ) (i sum left : ℕ) (out : List ℕ) (at : ℕ) (i₁ sum₁ left₁ : ℕ) (out₁ : List ℕ) (at₁ : ℕ)
-    (i₂ sum₂ left₂ : ℕ) (out₂ : List ℕ) (at₂ : ℕ) → Filling bs i sum left out at i₁ sum₁ left₁ out₁ at₁
-    → Filling bs i₁ sum₁ left₁ out₁ at₁ i₂ sum₂ left₂ out₂ at₂ → Filling bs i sum left out at i₂ sum₂ left₂ out₂ at₂
-filling_more bs i sum left out at i₁ sum₁ left₁ out₁ at₁ i₂ sum₂ left₂ out₂ at₂ f g =
-    record { ends = λ a. f.ends (g.ends a); writes = g.writes ∙ f.writes }
 
 -- all done
 pub filling_end : (bs : List ℕ) (i sum left : ℕ) (out : List ℕ) (at i' sum' left' : ℕ) (out' : List ℕ) (at' : ℕ)
@@ -133,7 +132,8 @@ fill_list n first next bs out out' s l h r e f b w =
     w.1 ∙ sym (overwrite_step out 0 first (running_from first (values_in (take (n - 1) (words_at bs next)))) r)
     ∙ ap (overwrite out 0) (sym numbers)
 
-last_sum : (prev : ℕ) (ds : List ℕ) → last_from prev (running_from prev ds) ≡ prev + sum_of ds
+-- the last number is the one before with the differences added
+pub last_sum : (prev : ℕ) (ds : List ℕ) → last_from prev (running_from prev ds) ≡ prev + sum_of ds
 unfolding last_from running_from sum_of
 last_sum prev [] = omega arith
 last_sum prev (d ∷ ds) = last_sum (prev + d) ds ∙ (omega arith)
@@ -143,9 +143,9 @@ pub rest_read_lem : (bs : List ℕ) (from prev n i count end last : ℕ) (ws vs 
     → get_or bs (from - 1) 0 < 128 → Found bs from i count ws → count ≤ length ws → n ≤ count → 0 < end
     → (0 < end → (from ≤ end) × (end ≤ i) × (get_or bs (end - 1) 0 < 128)
     × (length (words_at bs i) + (count - n) ≡ length (words_at bs end))) → i ≤ length bs
-    → AllEnded (take n ws) × (take n vs ≡ values_in (take n ws)) × AllAbove (take n vs) → prev + 2 ^ 32 * n < 2 ^ 63
-    → last ≤ prev + 2 ^ 32 * n → last ≡ last_from prev (running_from prev (take n vs))
-    → out' ≡ overwrite out 1 (running_from prev (take n vs)) → RestRead end bs from prev n (prev + 2 ^ 32 * n + 1) out out' 1
+    → AllEnded (take n ws) × (vs ≡ values_in (take n ws)) × AllAbove vs → prev + 2 ^ 32 * n < 2 ^ 63
+    → last ≤ prev + 2 ^ 32 * n → last ≡ last_from prev (running_from prev vs)
+    → out' ≡ overwrite out 0 (running_from prev vs) → RestRead end bs from prev n (prev + 2 ^ 32 * n + 1) out out' 0
 rest_read_lem bs from prev n i count end last ws vs out out' l fits b f r h some p within w room low is o =
     let q = p some in
     let e : goes_on (get_or bs (from - 1) 0) ≡ false = lt-leb 128 _ b in
@@ -162,15 +162,12 @@ rest_read_lem bs from prev n i count end last ws vs out out' l fits b f r h some
     let forms = forms_between n (drop from bs) (end - from) (rw (length-drop from bs) (omega (arith, q.1)))
     (λ k. rw (get_or-drop from bs (end - from - 1) 0) (let at : from + (end - from - 1) ≡ end - 1 = omega (arith, k) in rw at q.2))
     (rw behind (omega (arith, counted, left))) in
-    let vals : values_in (take n (start_words true (drop from bs))) ≡ take n vs = ap values_in firsts ∙ sym w.1 in
-    let sum = last_sum prev (take n vs) in
+    let vals : values_in (take n (start_words true (drop from bs))) ≡ vs = ap values_in firsts ∙ sym w.1 in
+    let sum = last_sum prev vs in
     let scanned = words_scan prev n (drop from bs) (drop_bytes bs from l) forms.whole (rw firsts w.0) (rw vals w.2)
     (rw vals (omega (arith, sum, is, low, room))) in
-    rest_read (running_from prev (take n vs)) (forms_len n (drop from bs)) some (rw vals at scanned) (omega (arith, forms.long, place))
+    rest_read (running_from prev vs) (forms_len n (drop from bs)) some (rw vals at scanned) (omega (arith, forms.long, place))
     (omega (arith, is, low)) o
-
-pub nothing_read : (bs : List ℕ) (from prev n top : ℕ) (out : List ℕ) (at : ℕ) → RestRead 0 bs from prev n top out out at
-nothing_read bs from prev n top out at = not_read refl refl
 
 -- the others, written behind the first, make the whole list
 pub fill_behind : (n first next : ℕ) (bs out out' : List ℕ) (s : Scan) → 0 < n → 0 < length out → scan_from 0 n bs ≡ accepted s
@@ -187,15 +184,6 @@ fill_behind n first next bs out out' s h r e f w =
 
 -- ---- a first number
 
-pub first_none : (bs : List ℕ) → FirstNumber 0 0 bs
-first_none bs = record {
-  below = omega arith;
-  within = omega arith;
-  ends = λ h. absurd (omega (arith, h));
-  next = λ h. absurd (omega
-      (arith, h));
-}
-
 pub first_read : (fk len : ℕ) (bs : List ℕ) → read_uleb bs ≡ accepted (record { value = fk; len = len }) → 0 < fk → fk < 2 ^ 63
     → FirstNumber fk len bs
 first_read fk len bs e h l =
@@ -209,6 +197,16 @@ first_read fk len bs e h l =
     }
 
 -- ---- the first number and those read behind it
+
+-- numbers read to a lent part of a list, from its second place on, were read to the list
+pub rest_whole : (told : ℕ) (bs : List ℕ) (from prev n top : ℕ) (out part : List ℕ) → 1 + n ≤ length out
+    → RestRead told bs from prev n top (take n (drop 1 out)) part 0
+    → RestRead told bs from prev n top out (take 1 out ++ (part ++ drop n (drop 1 out))) 1
+rest_whole told bs from prev n top out part h (not_read none same) =
+    not_read none (rw (same, take-append-drop n (drop 1 out), take-append-drop 1 out))
+rest_whole told bs from prev n top out part h (rest_read ns taken some scanned place below wrote) =
+    let count = (scan_accepted prev n (drop from bs) _ scanned).counted in
+    rest_read ns taken some scanned place below (filled_part out part ns 1 n h (omega (arith, count)) wrote)
 
 set_first : (out ys : List ℕ) (x : ℕ) → 0 < length out → set (overwrite out 1 ys) 0 x ≡ overwrite (set out 0 x) 1 ys
 unfolding overwrite
@@ -231,11 +229,6 @@ short_read told top n fk len bs out out' f p h room low (rest_read ns taken told
     let written : set out' 0 fk ≡ overwrite out 0 (fk ∷ ns) =
     ap (λ (l : List ℕ). set l 0 fk) wrote ∙ set_first out ns fk (omega arith) ∙ sym (overwrite_step out 0 fk ns (omega arith)) in
     short (record { numbers = fk ∷ ns; taken = len + taken }) some is place (omega (arith, count)) (omega (arith, below)) written
-
-pub short_unread : (told top n m fk len most : ℕ) (bs out out' : List ℕ) → RestRead told bs len fk m most out out' 1 → told ≤ 0
-    → ShortRead told top out out' (scan n bs)
-short_unread told top n m fk len most bs out out' (not_read none same) h = unread none same
-short_unread told top n m fk len most bs out out' (rest_read ns taken some scanned place below wrote) h = absurd (omega arith)
 
 pub short_none : (top : ℕ) (out : List ℕ) (a : Answer Scan) → ShortRead 0 top out out a
 short_none top out a = unread refl refl

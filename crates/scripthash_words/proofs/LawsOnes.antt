@@ -1,32 +1,35 @@
 -- Runs of forms of one byte each: their scan, and what reading them gives. Assumes nothing.
 use Prim.Native.Nat.{ℕ, zero, suc, ◌+◌, ◌*◌, ◌^◌, ◌≤◌, ◌<◌}
 use mathlib.Core.List.{List, ◌∷◌}
-use mathlib.Core.Logic.{⊎_elim}
 use mathlib.Core.Path.{◌≡◌, refl, sym, ap, ◌∙◌}
 use native.Mathlib.Omega.{arith}
-use lib.ListN.{length, take, drop, get_or}
-use lib.Seq.{drop-drop}
+use native.Mathlib.Nat.{zero-add}
+use lib.ListN.{length, take, drop, get_or, length-drop}
+use lib.Seq.{drop-drop, get_or-take, get_or-drop, length-take-le}
 use Rattle.error.specs.Refusal.{accepted}
-use Rattle.error.proofs.LawsAnswer.{accepted_inj}
 use Rattle.buffer.specs.Bytes.{overwrite}
-use Rattle.buffer.proofs.LawsOrder.{lt_or_ge}
 use Rattle.compact.specs.Uleb128.{Reading}
 use Rattle.compact.proofs.LawsReadFrom.{read_byte_at}
-use Rattle.scripthash_stream.specs.Stream.{Scan, scan_from, next_number, last_from}
+use Rattle.scripthash_stream.specs.Stream.{scan_from, next_number, last_from}
 use Rattle.scripthash_stream.proofs.LawsScan.{next_is, stored_sum, scan_cons}
 use Rattle.scripthash_stream.proofs.LawsStream.{front}
-use Rattle.scripthash_words.specs.Words.{OnesAt, running_from, RestRead, not_read, rest_read}
+use Rattle.scripthash_words.proofs.LawsValues.{sum_below}
+use Rattle.scripthash_words.specs.Words.{OnesAt, running_from, sum_of, RestRead, rest_read}
 
 -- each of the first k bytes from a place on lies between two numbers
 abbrev pub Between : List ℕ → ℕ → ℕ → ℕ → ℕ → Type 0
 Between bs from low high k = (i : ℕ) → i < k → (low ≤ get_or bs (from + i) 0) × (get_or bs (from + i) 0 ≤ high)
 
--- and one more
-pub between_next : (bs : List ℕ) (from low high k low' high' : ℕ) → Between bs from low high k
-    → (low' ≤ low) × (low' ≤ get_or bs (from + k) 0) → (high ≤ high') × (get_or bs (from + k) 0 ≤ high') → Between bs from low' high' (k + 1)
-between_next bs from low high k low' high' b l h i p =
-    ⊎_elim (λ (q : i < k). let w = b i q in (omega arith, omega arith))
-    (λ (q : k ≤ i). let e : i ≡ k = omega arith in rw e (l.1, h.1)) (lt_or_ge i k)
+-- a part whose bytes are such forms
+pub ones_part : (bs : List ℕ) (from n : ℕ) → from + n ≤ length bs
+    → OnesAt (take n (drop from bs)) 0 (length (take n (drop from bs))) → OnesAt bs from n
+ones_part bs from n h o i p =
+    let size : length (take n (drop from bs)) ≡ n = length-take-le n (drop from bs) (rw (length-drop from bs) (omega arith)) in
+    rw (zero-add i, get_or-take n (drop from bs) i 0 p, get_or-drop from bs i 0) at (o i (omega (arith, size)))
+
+-- the sum of such bytes
+pub ones_sum : (bs : List ℕ) → OnesAt bs 0 (length bs) → sum_of bs ≤ 127 * length bs
+ones_sum bs o = sum_below 127 bs (λ i p. omega (arith, rw (zero-add i) at ((o i p).1)))
 
 -- the scan of a run
 pub ones_scan : (prev n : ℕ) (bs : List ℕ) (from : ℕ) → from + n ≤ length bs → OnesAt bs from n → prev + 127 * n < 2 ^ 63
@@ -55,16 +58,8 @@ ones_scan prev (suc n) bs from h o low =
 -- what reading it gives
 pub ones_read : (bs : List ℕ) (from prev n last : ℕ) (out out' : List ℕ) → 0 < from → from + n ≤ length bs → OnesAt bs from n
     → prev + 2 ^ 32 * n < 2 ^ 63 → last ≤ prev + 127 * n → last ≡ last_from prev (running_from prev (take n (drop from bs)))
-    → out' ≡ overwrite out 1 (running_from prev (take n (drop from bs)))
-    → RestRead (from + n) bs from prev n (prev + 2 ^ 32 * n + 1) out out' 1
+    → out' ≡ overwrite out 0 (running_from prev (take n (drop from bs)))
+    → RestRead (from + n) bs from prev n (prev + 2 ^ 32 * n + 1) out out' 0
 ones_read bs from prev n last out out' p h o low most is wrote =
     rest_read (running_from prev (take n (drop from bs))) n (omega arith) (ones_scan prev n bs from h o (omega arith)) refl (omega
     (arith, is)) wrote
-
--- of numbers that scan, a list that was read holds them
-pub rest_filled : (told : ℕ) (bs : List ℕ) (from prev n top : ℕ) (out out' : List ℕ) (s : Scan)
-    → RestRead told bs from prev n top out out' 1
-    → 0 < told → scan_from prev n (drop from bs) ≡ accepted s → out' ≡ overwrite out 1 s.numbers
-rest_filled told bs from prev n top out out' s (not_read none same) h e = absurd (omega arith)
-rest_filled told bs from prev n top out out' s (rest_read ns taken some scanned place below wrote) h e =
-    wrote ∙ ap (λ (x : Scan). overwrite out 1 x.numbers) (accepted_inj (sym scanned ∙ e))

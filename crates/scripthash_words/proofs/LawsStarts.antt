@@ -15,10 +15,6 @@ use Rattle.compact.specs.Uleb128.{goes_on}
 use Rattle.scripthash_stream.proofs.LawsStream.{front}
 use Rattle.scripthash_words.specs.Words.{end_one, four_bytes, start_words, starts_at, words_at, Found}
 
--- none yet
-pub found_start : (bs : List ℕ) (from : ℕ) (words : List ℕ) → Found bs from from 0 words
-found_start bs from words = record { whole = refl }
-
 -- at a place, a word or none, and those behind it
 starts_next : (bs : List ℕ) (i : ℕ) → starts_at bs (i + 1) ≡ not (goes_on (get_or bs i 0))
 starts_next bs i = let e : i + 1 - 1 ≡ i = omega arith in ap (λ (x : ℕ). not (goes_on (get_or bs x 0))) e

@@ -4,7 +4,7 @@ use mathlib.Core.Bool.{true}
 use mathlib.Core.List.{List, [], ◌∷◌, ◌++◌}
 use mathlib.Core.Logic.{⊎_elim}
 use mathlib.Core.Path.{◌≡◌, refl, sym, ap, ◌∙◌}
-use native.Mathlib.Nat.{add-zero, sub-zero}
+use native.Mathlib.Nat.{mul-suc}
 use native.Mathlib.Numerals.{add-one}
 use native.Mathlib.Omega.{arith}
 use borrow.Author.Tests.{lt-ltb, le-ltb, ltb-true}
@@ -18,7 +18,7 @@ use Rattle.buffer.proofs.LawsOrder.{lt_or_ge}
 use Rattle.compact.specs.Uleb128.{piece, is_form, form_at, value}
 use Rattle.scripthash_stream.specs.Stream.{last_from}
 use Rattle.scripthash_stream.proofs.LawsStream.{front}
-use Rattle.scripthash_words.specs.Words.{four_bytes, has_end, value_in, values_in, AllEnded, AllAbove, running_from}
+use Rattle.scripthash_words.specs.Words.{four_bytes, has_end, value_in, values_in, AllEnded, AllAbove, running_from, sum_of}
 use Rattle.scripthash_words.proofs.LawsForm.{no_form, form_last, form_on, rest_form}
 
 -- ---- a word's value
@@ -255,9 +255,6 @@ pub record Summing (words : List ℕ) (n prev : ℕ) (out₀ : List ℕ) (at : �
   pub writes : overwrite out (at + k) (running_from sum (take (n - k) (drop k words))) ≡ overwrite out₀ at (running_from prev (take n words))
   pub last : last_from sum (running_from sum (take (n - k) (drop k words))) ≡ last_from prev (running_from prev (take n words))
 
-pub summing_start : (words : List ℕ) (n prev : ℕ) (out : List ℕ) (at : ℕ) → Summing words n prev out at out prev 0
-summing_start words n prev out at = record { writes = rw (sub-zero n, add-zero at); last = rw (sub-zero n) }
-
 pub summing_next : (words : List ℕ) (n prev : ℕ) (out₀ : List ℕ) (at : ℕ) (out : List ℕ) (sum k : ℕ)
     → Summing words n prev out₀ at out sum k
     → k < n → n ≤ length words → at + k < length out
@@ -285,3 +282,33 @@ unfolding running_from last_from
 summing_end words n prev out₀ at out sum k m e =
     let none : n - k ≡ 0 = omega arith in
     (sym (overwrite_nil out (at + k)) ∙ (rw none at m.writes), rw none at m.last)
+
+-- the sum of differences from a place on is the one there, and the sum of those behind it
+pub sum_front : (ds : List ℕ) (k : ℕ) → k < length ds → sum_of (drop k ds) ≡ get_or ds k 0 + sum_of (drop (k + 1) ds)
+unfolding sum_of
+sum_front ds k h = ap sum_of (front ds k h)
+
+-- differences up to a limit add up to at most as many times that
+pub sum_below : (most : ℕ) (ds : List ℕ) → ((i : ℕ) → i < length ds → get_or ds i 0 ≤ most) → sum_of ds ≤ most * length ds
+unfolding sum_of
+sum_below most [] h = omega arith
+sum_below most (d ∷ ds) h =
+    let first : d ≤ most = h 0 (omega arith) in
+    omega (arith, first, sum_below most ds (λ i p. h (suc i) (omega arith)), mul-suc most (length ds))
+
+-- a word's value is below 2 ^ 32
+value_below : (x : ℕ) → value_in x < 2 ^ 32
+value_below x =
+    ⊎_elim (λ (p : x % 256 < 128). omega (arith, value_one x p))
+    (λ (p : 128 ≤ x % 256).
+    ⊎_elim (λ (q : x / 256 % 256 < 128). omega (arith, value_two x p q))
+    (λ (q : 128 ≤ x / 256 % 256).
+    ⊎_elim (λ (r : x / 65536 % 256 < 128). omega (arith, value_three x p q r))
+    (λ (r : 128 ≤ x / 65536 % 256). omega (arith, value_four x p q r)) (lt_or_ge (x / 65536 % 256) 128)) (lt_or_ge (x / 256 % 256) 128))
+    (lt_or_ge (x % 256) 128)
+
+-- so the values of some words add up to at most 2 ^ 32 times as many
+pub values_sum : (xs : List ℕ) → sum_of (values_in xs) ≤ 2 ^ 32 * length xs
+unfolding sum_of values_in
+values_sum [] = omega arith
+values_sum (x ∷ xs) = omega (arith, value_below x, values_sum xs)

@@ -1,34 +1,29 @@
 // The first number of a stream, which is often long, read by itself.
+ghost use Rattle.std.specs.Prelude.{◌<◌, IfSome};
 ghost use Rattle.scripthash_words.specs.Words.{FirstNumber};
 
-use compact::ReadUleb128;
 use scripthash_stream::BIT_63;
 
-// A number and the bytes that its form takes, 0 where it can't be read.
+// A stream's first number and the bytes that its form takes.
 #[derive(Clone, Copy)]
 pub struct First {
     pub fk: u64,
     pub len: usize,
+    ghost some: { 0 < len },
 }
 
-// The first number of a stream.
-pub fn first_number(buf: &[u8]) -> First
-    ensures { FirstNumber result.fk result.len buf.now }
+// The first number of a stream, where it can be read.
+pub fn first_number(buf: &[u8]) -> Option<First>
+    ensures { IfSome result (λ first. FirstNumber first.fk first.len buf.now) }
 {
-    let got = compact::read_uleb128(buf);
-    let ReadUleb128::Value {
-        value,
-        len,
-        shortest: _,
-    } = got
-    else {
-        return First { fk: 0, len: 0 };
+    let Ok(form) = compact::read_uleb128(buf) else {
+        return None;
     };
-    if value == 0 {
-        return First { fk: 0, len: 0 };
+    if form.value == 0 || BIT_63 <= form.value {
+        return None;
     }
-    if BIT_63 <= value {
-        return First { fk: 0, len: 0 };
-    }
-    First { fk: value, len }
+    Some(First {
+        fk: form.value,
+        len: form.len,
+    })
 }

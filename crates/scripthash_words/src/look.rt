@@ -23,29 +23,18 @@ const FOUR: u64 = 0x0080_8080_0080_8080;
 
 // Whether 16 bytes that go on or not are those of forms of one length, up to four bytes.
 fn alike(first: u64, later: u64) -> bool {
-    if first | later == 0 {
-        return true;
-    }
-    if first == TWO {
-        return later == TWO;
-    }
-    if first == THREE {
-        return later == THREE_LATER;
-    }
-    if first == FOUR {
-        return later == FOUR;
-    }
-    false
+    matches!(
+        (first, later),
+        (0, 0) | (TWO, TWO) | (THREE, THREE_LATER) | (FOUR, FOUR)
+    )
 }
 
-// Whether each of the 16 bytes from a start on is a form.
-pub fn ones_early(buf: &[u8], i: usize) -> bool
-    requires { i ≤ length buf.now }
-{
-    if buf.len() - i < 16 {
+// Whether each of the first 16 bytes of some that begin with a form is a form.
+pub fn ones_early(bytes: &[u8]) -> bool {
+    if bytes.len() < 16 {
         return false;
     }
-    (buffer::get_u64(buf, i) | buffer::get_u64(buf, i + 8)) & GO_ON == 0
+    (buffer::get_u64(bytes, 0) | buffer::get_u64(bytes, 8)) & GO_ON == 0
 }
 
 // The bytes of eight that go on where the three before them do.
@@ -53,61 +42,48 @@ fn fourth(bytes: u64) -> u64 {
     bytes & (bytes >> 8) & (bytes >> 16) & (bytes >> 24)
 }
 
-// Whether the forms in the 16 bytes from a start on differ in length, and none of five bytes or more is seen there.
-fn lengths_differ(buf: &[u8], i: usize) -> bool
-    requires { i ≤ length buf.now }
-{
-    if buf.len() - i < 16 {
+// Whether the forms in the first 16 bytes differ in length, and none of five bytes or more is seen there.
+fn lengths_differ(bytes: &[u8]) -> bool {
+    if bytes.len() < 16 {
         return false;
     }
-    let first = buffer::get_u64(buf, i) & GO_ON;
-    let later = buffer::get_u64(buf, i + 8) & GO_ON;
+    let first = buffer::get_u64(bytes, 0) & GO_ON;
+    let later = buffer::get_u64(bytes, 8) & GO_ON;
     if alike(first, later) {
         return false;
     }
     fourth(first) | fourth(later) == 0
 }
 
-// The bytes of 16 that go on where the three before them in their eight do.
-fn fourth_of_16(buf: &[u8], i: usize) -> u64
-    requires { i + 16 ≤ length buf.now }
+// The bytes of 16 from a place on that go on where the three before them in their eight do.
+fn fourth_of_16(bytes: &[u8], i: usize) -> u64
+    requires { i + 16 ≤ length bytes.now }
 {
-    fourth(buffer::get_u64(buf, i) & GO_ON) | fourth(buffer::get_u64(buf, i + 8) & GO_ON)
+    fourth(buffer::get_u64(bytes, i) & GO_ON) | fourth(buffer::get_u64(bytes, i + 8) & GO_ON)
 }
 
 // Whether none of five bytes or more is seen in the 48 bytes behind them either: else many words would be kept in vain.
-fn stay_short(buf: &[u8], i: usize) -> bool
-    requires { i ≤ length buf.now }
-{
-    if buf.len() - i < 64 {
+fn stay_short(bytes: &[u8]) -> bool {
+    if bytes.len() < 64 {
         return true;
     }
-    fourth_of_16(buf, i + 16) | fourth_of_16(buf, i + 32) | fourth_of_16(buf, i + 48) == 0
+    fourth_of_16(bytes, 16) | fourth_of_16(bytes, 32) | fourth_of_16(bytes, 48) == 0
 }
 
-// Whether n numbers from a start on are better read by words.
-pub fn words_pay(buf: &[u8], i: usize, n: usize) -> bool
-    requires { i ≤ length buf.now }
-{
-    if lengths_differ(buf, i) {
-        if n < MANY {
-            return true;
-        }
-        return stay_short(buf, i);
-    }
-    false
+// Whether n numbers, whose forms some bytes begin with, are better read by words.
+pub fn words_pay(bytes: &[u8], n: usize) -> bool {
+    lengths_differ(bytes) && (n < MANY || stay_short(bytes))
 }
 
 // Whether a stream with more numbers than a slab is better scanned first and then read: its early forms have one byte each, or differ in
 // length. Where its first number has one byte too, all may, and one pass reads them.
 pub fn better_scanned(buf: &[u8]) -> bool {
-    let first = first_number(buf);
-    let next = first.len;
-    if next < 2 {
+    let Some(first) = first_number(buf) else {
+        return false;
+    };
+    if first.len < 2 {
         return false;
     }
-    if ones_early(buf, next) {
-        return true;
-    }
-    words_pay(buf, next, MANY)
+    let behind = &buf[first.len..];
+    ones_early(behind) || words_pay(behind, MANY)
 }

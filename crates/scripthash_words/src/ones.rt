@@ -1,81 +1,36 @@
 // Runs of forms of one byte each, as differences below 128 have, behind a first number of any length: the bytes are tested together and
 // summed up.
-ghost use Rattle.std.specs.Prelude.{◌≡◌, true, ◌+◌, ◌-◌, ◌*◌, ◌^◌, ◌≤◌, ◌<◌, length, get_or, take, drop};
-ghost use Rattle.buffer.specs.Bytes.{overwrite};
-ghost use Rattle.scripthash_stream.specs.Stream.{last_from};
-ghost use Rattle.scripthash_words.specs.Words.{running_from, OnesAt, RestRead};
+ghost use Rattle.std.specs.Prelude.{◌≡◌, true, ◌+◌, ◌*◌, ◌^◌, ◌≤◌, ◌<◌, length};
+ghost use Rattle.scripthash_words.specs.Words.{FirstNumber, OnesAt, RestRead};
 
-use scripthash_stream::wide;
+use crate::first::First;
+use crate::values::sum_up;
 
-// The lower of two bytes.
-fn lower(a: u8, b: u8) -> u8
-    ensures { (result ≤ a) × (result ≤ b) }
+// Whether each of some bytes is a form above 0: the lowest and the highest tell it.
+fn all_ones(bytes: &[u8]) -> bool
+    ensures { result ≡ true → OnesAt bytes.now 0 (length bytes.now) }
 {
-    if a < b {
-        return a;
+    let mut low = u8::MAX;
+    let mut high = 0;
+    for b in bytes {
+        low = low.min(*b);
+        high = high.max(*b);
     }
-    b
+    0 < low && high < 128
 }
 
-// The higher of two bytes.
-fn higher(a: u8, b: u8) -> u8
-    ensures { (a ≤ result) × (b ≤ result) }
+// Fills out with the numbers behind a stream's first, where each takes one byte: tells the place behind them, or 0 and leaves out.
+pub fn read_ones(buf: &[u8], first: First, out: &mut [u64]) -> usize
+    requires { FirstNumber first.fk first.len buf.now × (length out.old ≤ 65535) × (first.fk + 2 ^ 32 * length out.old < 2 ^ 63) }
+    ensures { RestRead result buf.now first.len first.fk (length out.old) (first.fk + 2 ^ 32 * length out.old + 1) out.old out.new 0 }
 {
-    if a < b {
-        return b;
-    }
-    a
-}
-
-// Whether each of n bytes from a place on is a form above 0: the lowest and the highest tell it.
-fn all_ones(buf: &[u8], from: usize, n: usize) -> bool
-    requires { from + n ≤ length buf.now }
-    ensures { result ≡ true → OnesAt buf.now from n }
-{
-    let mut low: u8 = 255;
-    let mut high: u8 = 0;
-    let mut k: usize = 0;
-    while k < n {
-        let b = buf[from + k];
-        low = lower(low, b);
-        high = higher(high, b);
-        k += 1;
-    }
-    if low == 0 {
-        return false;
-    }
-    high < 128
-}
-
-// Writes the numbers behind prev that n such bytes lead to to out behind its first place, and tells the last.
-fn sum_ones(buf: &[u8], from: usize, prev: u64, n: usize, out: &mut [u64]) -> u64
-    requires { (from + n ≤ length buf.now) × OnesAt buf.now from n × (1 + n ≤ length out.old) × (prev + 127 * n < 2 ^ 64) }
-    ensures { (result ≤ prev + 127 * n)
-        × (out.new ≡ overwrite out.old 1 (running_from prev (take n (drop from buf.now))))
-        × (result ≡ last_from prev (running_from prev (take n (drop from buf.now)))) }
-{
-    let mut sum = prev;
-    let mut k: usize = 0;
-    while k < n {
-        sum += wide(buf[from + k]);
-        out[1 + k] = sum;
-        k += 1;
-    }
-    sum
-}
-
-// Reads n numbers behind prev, from a place on, to out behind its first place, where each takes one byte: tells the place behind them, or 0
-// and leaves out.
-pub fn read_ones(buf: &[u8], from: usize, prev: u64, n: usize, out: &mut [u64]) -> usize
-    requires { (0 < from) × (from ≤ length buf.now) × (n ≤ 65535) × (1 + n ≤ length out.old) × (prev + 2 ^ 32 * n < 2 ^ 63) }
-    ensures { RestRead result buf.now from prev n (prev + 2 ^ 32 * n + 1) out.old out.new 1 }
-{
-    if buf.len() - from < n {
+    if buf.len() - first.len < out.len() {
         return 0;
     }
-    if all_ones(buf, from, n) {
-        sum_ones(buf, from, prev, n, out);
-        return from + n;
+    let ones = &buf[first.len..first.len + out.len()];
+    if !all_ones(ones) {
+        return 0;
     }
-    0
+    sum_up(ones, first.fk, out);
+    first.len + out.len()
 }

@@ -1,5 +1,6 @@
 // Where forms start: at each place four bytes are kept as a word, and the next place keeps its own over them where no form starts.
-ghost use Rattle.std.specs.Prelude.{◌≡◌, ℕ, ◌+◌, ◌-◌, ◌≤◌, ◌<◌, length, get_or, drop};
+// The bytes and a place in them stay two parameters: each step goes on from another place, so that a struct of both would be made anew.
+ghost use Rattle.std.specs.Prelude.{◌≡◌, ℕ, ◌+◌, ◌-◌, ◌≤◌, ◌<◌, length, get_or, drop, IfSome};
 ghost use Rattle.scripthash_words.specs.Words.{end_one, four_bytes, words_at, Found};
 
 // The place up to which starts were looked for, and how many there are.
@@ -13,54 +14,40 @@ pub struct Starts {
 fn ends_form(b: u8) -> usize
     ensures { (result ≡ end_one b) × (result ≤ 1) }
 {
-    if b < 128 {
-        return 1;
-    }
-    0
+    usize::from(b < 128)
 }
 
 // Keeps the word at a place at index s, and tells the index for the next place: the same one where no form starts here.
-fn keep_word(buf: &[u8], i: usize, s: usize, words: &mut [u32]) -> usize
-    requires { (0 < i) × (i + 4 ≤ length buf.now) × (s < length words.old) }
+fn keep_word(buf: &[u8], i: usize, word: u32, s: usize, words: &mut [u32]) -> usize
+    requires { (0 < i) × (i < length buf.now) × (word ≡ four_bytes (drop i buf.now)) × (s < length words.old) }
     ensures { (result ≤ s + 1) × (length words.new ≡ length words.old)
         × ((from : ℕ) → Found buf.now from i s words.old
         → Found buf.now from (i + 1) result words.new) }
 {
-    words[s] = buffer::get_u32(buf, i);
+    words[s] = word;
     s + ends_form(buf[i - 1])
 }
 
-// The words at two places.
-fn keep_two(buf: &[u8], i: usize, s: usize, words: &mut [u32]) -> usize
-    requires { (0 < i) × (i + 5 ≤ length buf.now) × (s + 2 ≤ length words.old) }
-    ensures { (result ≤ s + 2) × (length words.new ≡ length words.old)
-        × ((from : ℕ) → Found buf.now from i s words.old
-        → Found buf.now from (i + 2) result words.new) }
+// The word at a place with four bytes from there on.
+fn word_at(buf: &[u8], i: usize) -> u32
+    requires { i + 4 ≤ length buf.now }
+    ensures { result ≡ four_bytes (drop i buf.now) }
 {
-    let t = keep_word(buf, i, s, words);
-    keep_word(buf, i + 1, t, words)
+    buffer::get_u32(buf, i)
 }
 
-// The words at four places.
-fn keep_four(buf: &[u8], i: usize, s: usize, words: &mut [u32]) -> usize
-    requires { (0 < i) × (i + 7 ≤ length buf.now) × (s + 4 ≤ length words.old) }
-    ensures { (result ≤ s + 4) × (length words.new ≡ length words.old)
-        × ((from : ℕ) → Found buf.now from i s words.old
-        → Found buf.now from (i + 4) result words.new) }
-{
-    let t = keep_two(buf, i, s, words);
-    keep_two(buf, i + 2, t, words)
-}
-
-// The words at eight places. One call for all of them would be too much for one proof.
+// The words at eight places.
 fn keep_eight(buf: &[u8], i: usize, s: usize, words: &mut [u32]) -> usize
     requires { (0 < i) × (i + 11 ≤ length buf.now) × (s + 8 ≤ length words.old) }
     ensures { (result ≤ s + 8) × (length words.new ≡ length words.old)
         × ((from : ℕ) → Found buf.now from i s words.old
         → Found buf.now from (i + 8) result words.new) }
 {
-    let t = keep_four(buf, i, s, words);
-    keep_four(buf, i + 4, t, words)
+    let mut next = s;
+    for j in 0..8 {
+        next = keep_word(buf, i + j, word_at(buf, i + j), next, words);
+    }
+    next
 }
 
 // Finds starts eight places at a time, until there are as many as wanted, or fewer than 12 bytes are left.
@@ -72,6 +59,7 @@ fn find_by_eight(buf: &[u8], from: usize, want: usize, words: &mut [u32]) -> Sta
 {
     let mut i = from;
     let mut s: usize = 0;
+    // Each turn goes on by eight places and finds as many starts as stand there, so that no range counts the turns.
     while s < want {
         if buf.len() - i < 12 {
             return Starts { at: i, count: s };
@@ -82,21 +70,11 @@ fn find_by_eight(buf: &[u8], from: usize, want: usize, words: &mut [u32]) -> Sta
     Starts { at: i, count: s }
 }
 
-// A byte as a part of a word.
-fn byte_wide(b: u8) -> u32
-    ensures { (result ≡ b) × (result < 256) }
-{
-    b as u32
-}
-
 // The byte at a place, or 0 where there is none.
-fn byte_or_none(buf: &[u8], i: usize) -> u32
-    ensures { (result ≡ get_or buf.now i 0) × (result < 256) }
+fn byte_or_none(buf: &[u8], i: usize) -> u8
+    ensures { result ≡ get_or buf.now i 0 }
 {
-    if i < buf.len() {
-        return byte_wide(buf[i]);
-    }
-    0
+    buf.get(i).copied().unwrap_or(0)
 }
 
 // The word at a place near the end.
@@ -104,23 +82,12 @@ fn word_at_end(buf: &[u8], i: usize) -> u32
     requires { i < length buf.now }
     ensures { result ≡ four_bytes (drop i buf.now) }
 {
-    let a = byte_or_none(buf, i);
-    let b = byte_or_none(buf, i + 1);
-    if buf.len() - i < 3 {
-        return a + b * 256;
-    }
-    a + b * 256 + byte_or_none(buf, i + 2) * 65536 + byte_or_none(buf, i + 3) * 16777216
-}
-
-// Keeps the word at a place near the end.
-fn keep_last(buf: &[u8], i: usize, s: usize, words: &mut [u32]) -> usize
-    requires { (0 < i) × (i < length buf.now) × (s < length words.old) }
-    ensures { (result ≤ s + 1) × (length words.new ≡ length words.old)
-        × ((from : ℕ) → Found buf.now from i s words.old
-        → Found buf.now from (i + 1) result words.new) }
-{
-    words[s] = word_at_end(buf, i);
-    s + ends_form(buf[i - 1])
+    buffer::u32_of(
+        buf[i],
+        byte_or_none(buf, i + 1),
+        byte_or_none(buf, i + 2),
+        byte_or_none(buf, i + 3),
+    )
 }
 
 // Finds starts place by place behind those that were found, until there are as many as wanted, or the bytes end.
@@ -131,16 +98,17 @@ fn find_singly(buf: &[u8], from: usize, had: usize, want: usize, words: &mut [u3
         × ((o : ℕ) → Found buf.now o from had words.old
         → Found buf.now o result.at result.count words.new) }
 {
-    let mut i = from;
     let mut s = had;
-    while s < want {
-        if i == buf.len() {
+    for i in from..buf.len() {
+        if want <= s {
             return Starts { at: i, count: s };
         }
-        s = keep_last(buf, i, s, words);
-        i += 1;
+        s = keep_word(buf, i, word_at_end(buf, i), s, words);
     }
-    Starts { at: i, count: s }
+    Starts {
+        at: buf.len(),
+        count: s,
+    }
 }
 
 // Finds starts from a place on: as many as wanted and up to seven more, or all that there are.
@@ -154,23 +122,21 @@ pub fn find_starts(buf: &[u8], from: usize, want: usize, words: &mut [u32]) -> S
     find_singly(buf, got.at, got.count, want, words)
 }
 
-// The place with so many starts between it and a later one, which counts itself, or 0 where no form ends before it.
-pub fn place_before(buf: &[u8], from: usize, at: usize, more: usize) -> usize
+// The place with so many starts between it and a later one, which counts itself, where a form ends before it.
+pub fn place_before(buf: &[u8], from: usize, at: usize, more: usize) -> Option<usize>
     requires { (0 < from) × (from ≤ at) × (at ≤ length buf.now) }
-    ensures { 0 < result → (from ≤ result) × (result ≤ at) × (get_or buf.now (result - 1) 0 < 128)
-        × (length (words_at buf.now at) + more ≡ length (words_at buf.now result)) }
+    ensures { IfSome result (λ place. (from ≤ place) × (place ≤ at) × (get_or buf.now (place - 1) 0 < 128)
+        × (length (words_at buf.now at) + more ≡ length (words_at buf.now place))) }
 {
     let mut i = at;
     let mut left = more;
+    // It goes back until enough starts are passed, and tells where: a range would have a second way out, and lose the place.
     while 0 < left {
         if i == from {
-            return 0;
+            return None;
         }
         i -= 1;
         left -= ends_form(buf[i - 1]);
     }
-    if 128 <= buf[i - 1] {
-        return 0;
-    }
-    i
+    (buf[i - 1] < 128).then_some(i)
 }

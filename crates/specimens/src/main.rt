@@ -1,101 +1,73 @@
 // Runs the specimens: numbers written, read back and measured, and byte strings read, each result a line on standard output.
 #![tactic(auto)]
 
-use compact::{ReadUleb128, WriteUleb128};
+use std::io;
+use text::Bytes;
 
-// Writes n to the start of dst, shows what was written, and answers its length; 0 where it was refused.
-fn show_write(dst: &mut [u8], n: u64) -> usize {
-    text::words(b"write ");
-    text::number(n);
-    text::words(b":");
+// Writes n to the start of dst, shows what was written, and answers its bytes; none where it was refused.
+fn show_write<'a, P: Print>(rt: &P, dst: &'a mut [u8], n: u64) -> io::Result<&'a [u8]> {
     match compact::write_uleb128_into(dst, n) {
-        WriteUleb128::Written(len) => {
-            text::bytes(text::first(dst, len));
-            text::words(b"\n");
-            len
+        Ok(len) => {
+            let form = dst.get(..len).unwrap_or(&[]);
+            println!(rt; "write {n}:{}", Bytes(form))?;
+            Ok(form)
         }
-        WriteUleb128::Refused(number) => {
-            text::refusal(number);
-            0
+        Err(refusal) => {
+            println!(rt; "write {n}: refused {}", u32::from(refusal))?;
+            Ok(&[])
         }
     }
 }
 
 // Reads buf and shows the number with the length of its form, or the refusal.
-fn show_read(buf: &[u8]) {
-    text::words(b"read");
-    text::bytes(buf);
-    text::words(b":");
+fn show_read<P: Print>(rt: &P, buf: &[u8]) -> io::Result<()> {
+    print!(rt; "read{}: ", Bytes(buf))?;
     match compact::read_uleb128(buf) {
-        ReadUleb128::Value {
-            value,
-            len,
-            shortest: _,
-        } => {
-            text::words(b" ");
-            text::number(value);
-            text::words(b", length ");
-            text::number(len as u64);
-            text::words(b"\n");
-        }
-        ReadUleb128::Refused(number) => text::refusal(number),
+        Ok(read) => println!(rt; "{}, length {}", read.value, read.len),
+        Err(refusal) => println!(rt; "refused {}", u32::from(refusal)),
     }
-}
-
-// Shows the length of n's shortest form.
-fn show_len(n: u64) {
-    text::words(b"length ");
-    text::number(n);
-    text::words(b": ");
-    text::number(compact::uleb128_len(n) as u64);
-    text::words(b"\n");
 }
 
 // Shows n written, read back and measured.
-fn show_number(form: &mut [u8], n: u64) {
-    let len = show_write(form, n);
-    show_read(text::first(form, len));
-    show_len(n);
+fn show_number<P: Print>(rt: &P, n: u64) -> io::Result<()> {
+    let mut space = [0u8; 10];
+    let form = show_write(rt, &mut space, n)?;
+    show_read(rt, form)?;
+    println!(rt; "length {n}: {}", compact::uleb128_len(n))
 }
 
 // Shows each of some numbers.
-fn show_numbers(numbers: &[u64]) {
-    let mut space = [0u8; 10];
-    let form: &mut [u8] = &mut space;
-    let mut i: usize = 0;
-    while i < numbers.len() {
-        show_number(form, numbers[i]);
-        i += 1;
+fn show_numbers<P: Print>(rt: &P, numbers: &[u64]) -> io::Result<()> {
+    for n in numbers {
+        show_number(rt, *n)?;
     }
+    Ok(())
 }
 
 // The examples of the DWARF standard, version 5, section 7.6.
-fn dwarf_examples() {
-    text::words(b"DWARF's examples\n");
-    let numbers: [u64; 6] = [2, 127, 128, 129, 130, 12857];
-    show_numbers(&numbers);
+fn dwarf_examples<P: Print>(rt: &P) -> io::Result<()> {
+    println!(rt; "DWARF's examples")?;
+    show_numbers(rt, &[2, 127, 128, 129, 130, 12857])
 }
 
 // S1 to S5, which are ULEB128 forms, in their order.
-fn uleb128_specimens() {
-    text::words(b"S1\n");
-    let first: [u64; 2] = [0, 128];
-    show_numbers(&first);
-    text::words(b"S2\n");
-    let second: [u64; 1] = [12857];
-    show_numbers(&second);
-    text::words(b"S3\n");
-    show_read(b"\x80\x00");
-    text::words(b"S4\n");
-    show_read(b"\xff\xff\xff\xff\xff\xff\xff\xff\xff\x02");
-    text::words(b"S5\n");
-    show_read(b"\x80\x80\x80\x80\x80\x80\x80\x80\x80\x80");
-    show_read(b"\x80\x80\x80\x80\x80\x80\x80\x80\x80\x80\x80");
+fn uleb128_specimens<P: Print>(rt: &P) -> io::Result<()> {
+    println!(rt; "S1")?;
+    show_numbers(rt, &[0, 128])?;
+    println!(rt; "S2")?;
+    show_numbers(rt, &[12857])?;
+    println!(rt; "S3")?;
+    show_read(rt, b"\x80\x00")?;
+    println!(rt; "S4")?;
+    show_read(rt, b"\xff\xff\xff\xff\xff\xff\xff\xff\xff\x02")?;
+    println!(rt; "S5")?;
+    show_read(rt, b"\x80\x80\x80\x80\x80\x80\x80\x80\x80\x80")?;
+    show_read(rt, b"\x80\x80\x80\x80\x80\x80\x80\x80\x80\x80\x80")
 }
 
 // The last number of each length and the first of the next, and the largest of 64 bits.
-fn boundaries() {
-    text::words(b"Boundaries\n");
+fn boundaries<P: Print>(rt: &P) -> io::Result<()> {
+    println!(rt; "Boundaries")?;
     let numbers: [u64; 19] = [
         127,
         128,
@@ -117,19 +89,20 @@ fn boundaries() {
         9223372036854775808,
         18446744073709551615,
     ];
-    show_numbers(&numbers);
+    show_numbers(rt, &numbers)
 }
 
 // A number of two bytes where there is room for one.
-fn one_byte_of_room() {
-    text::words(b"One byte of room\n");
+fn one_byte_of_room<P: Print>(rt: &P) -> io::Result<()> {
+    println!(rt; "One byte of room")?;
     let mut one = [0u8; 1];
-    show_write(&mut one, 128);
+    show_write(rt, &mut one, 128)?;
+    Ok(())
 }
 
-fn main() {
-    dwarf_examples();
-    uleb128_specimens();
-    boundaries();
-    one_byte_of_room();
+fn main(rt: HostRuntime) -> io::Result<()> {
+    dwarf_examples(&rt)?;
+    uleb128_specimens(&rt)?;
+    boundaries(&rt)?;
+    one_byte_of_room(&rt)
 }

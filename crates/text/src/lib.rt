@@ -1,18 +1,10 @@
-// What the programs write to standard output: words, numbers in decimal, bytes in hexadecimal; and where a byte stands in a text.
+// What the programs read and write as text: where a byte stands, pieces that a byte ends, lists of numbers in decimal, bytes in hexadecimal.
 #![tactic(auto)]
 
 ghost use Rattle.std.specs.Prelude.{◌≡◌, ℕ, ◌<◌, ◌≤◌, ◌≢◌, length, slice_index};
+ghost use Rattle.std.specs.Iterator.{at_most};
 
-// The descriptor of standard output.
-const STDOUT: i32 = 1;
-
-// The first len bytes of a buffer; all of them where it has fewer.
-pub fn first(buf: &[u8], len: usize) -> &[u8] {
-    if len < buf.len() {
-        return &buf[0..len];
-    }
-    buf
-}
+use std::fmt;
 
 // The index of the first b from one index of a text up to another, or that other where there is none.
 pub fn find(text: &[u8], start: usize, end: usize, b: u8) -> usize
@@ -31,64 +23,58 @@ pub fn find(text: &[u8], start: usize, end: usize, b: u8) -> usize
     end
 }
 
-// Writes some words.
-pub fn words(some: &[u8]) {
-    io::write_all(STDOUT, some);
+// The pieces of a text, each without the byte that ends it. The last piece may have no such byte behind it, and isn't empty then.
+#[derive(Clone, Copy)]
+pub struct Pieces<'a> {
+    rest: &'a [u8],
+    end: u8,
 }
 
-// Writes a number in decimal.
-pub fn number(n: u64) {
-    io::print_decimal(STDOUT, n);
-}
-
-// Writes some words and a number in decimal.
-pub fn named(some: &[u8], n: u64) {
-    words(some);
-    number(n);
-}
-
-// Ends the line.
-pub fn end() {
-    words(b"\n");
-}
-
-// The hexadecimal digit of d, of which the four low bits count.
-fn hex_digit(d: u8) -> u8 {
-    let low = d % 16;
-    if low < 10 {
-        b'0' + low
-    } else {
-        b'A' + (low - 10)
+impl<'a> Pieces<'a> {
+    // The pieces of a text that a byte ends.
+    pub fn new(text: &'a [u8], end: u8) -> Self {
+        Pieces { rest: text, end }
     }
 }
 
-// Writes a byte in hexadecimal, with a space before it.
-fn byte(b: u8) {
-    let digits = [b' ', hex_digit(b / 16), hex_digit(b)];
-    io::write_all(STDOUT, &digits);
-}
+impl<'a> Iterator for Pieces<'a> {
+    type Item = &'a [u8];
 
-// Writes each of some bytes.
-pub fn bytes(some: &[u8]) {
-    let mut i: usize = 0;
-    while i < some.len() {
-        byte(some[i]);
-        i += 1;
+    ghost remaining = { λ s. at_most (length s.rest.now) };
+
+    fn next(&mut self) -> Option<&'a [u8]> {
+        let rest = self.rest;
+        if rest.is_empty() {
+            return None;
+        }
+        let stop = find(rest, 0, rest.len(), self.end);
+        self.rest = rest.get(stop + 1..).unwrap_or(&[]);
+        Some(&rest[..stop])
     }
 }
 
-// Writes each number of a list in decimal, with a space before it.
-pub fn numbers(list: &[u64]) {
-    let mut i: usize = 0;
-    while i < list.len() {
-        words(b" ");
-        number(list[i]);
-        i += 1;
+// Bytes that are written in hexadecimal, each with a space before it.
+#[derive(Clone, Copy)]
+pub struct Bytes<'a>(pub &'a [u8]);
+
+impl fmt::Display for Bytes<'_> {
+    fn fmt<W: fmt::Write>(&self, f: &mut fmt::Formatter<W>) -> fmt::Result {
+        for b in self.0 {
+            write!(f, " {b:02X}")?;
+        }
+        Ok(())
     }
 }
 
-// Writes the number of a refusal, and ends the line.
-pub fn refusal(refusal: error::Refusal) {
-    named(b" refused ", refusal as u64);
-    end();
+// Numbers that are written in decimal, each with a space before it.
+#[derive(Clone, Copy)]
+pub struct Numbers<'a>(pub &'a [u64]);
+
+impl fmt::Display for Numbers<'_> {
+    fn fmt<W: fmt::Write>(&self, f: &mut fmt::Formatter<W>) -> fmt::Result {
+        for n in self.0 {
+            write!(f, " {n}")?;
+        }
+        Ok(())
+    }
 }

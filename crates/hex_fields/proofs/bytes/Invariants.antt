@@ -1,9 +1,6 @@
--- `bytes` stays within the field and the buffer.
-use Rattle.std.proofs.Common.{◌-◌, ◌≤◌, length}
+-- What was put is in the buffer.
+use Rattle.std.proofs.Common.{◌≤◌, length}
 use Rattle.hex_fields.proofs.bytes.Given as goal
 
-abbrev pub invariant-loop-at : goal.invariant-loop-at
-invariant-loop-at l = l.at ≤ length l.s
-
-abbrev pub decreases-loop-at : goal.decreases-loop-at
-decreases-loop-at l = length l.s - l.at
+abbrev pub invariant-loop-a : goal.invariant-loop-a
+invariant-loop-a l = l.count ≤ length l.out

@@ -1,9 +1,9 @@
--- `numbers` stays within the field and the list, and ends: each turn goes past an item.
-use Rattle.std.proofs.Common.{◌-◌, ◌≤◌, length}
+-- What was put is in the list.
+use Rattle.std.proofs.Common.{◌≤◌, length}
 use Rattle.hex_fields.proofs.numbers.Given as goal
 
-abbrev pub invariant-loop-at : goal.invariant-loop-at
-invariant-loop-at l = l.at ≤ length l.s
-
-abbrev pub decreases-loop-at : goal.decreases-loop-at
-decreases-loop-at l = length l.s - l.at
+abbrev pub invariant-loop-item : goal.invariant-loop-item
+invariant-loop-item l =
+    (goal.iterator-loop-item).can_next l.item-iterator
+    × (goal.iterator-loop-item).is_finite l.item-iterator
+    × (l.count ≤ length l.out)

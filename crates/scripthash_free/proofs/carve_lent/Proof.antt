@@ -1,10 +1,11 @@
 -- `carve_lent` meets its contract: the test of the gap decides. Assumes nothing.
-use mathlib.Core.Path.{◌≡◌, sym, ap, ◌∙◌}
+use mathlib.Core.Path.{◌≡◌, sym, ◌∙◌}
 use mathlib.Core.Bool.{true}
 use native.Mathlib.Omega.{arith}
 use lib.ListN.{length}
 use borrow.Author.Tests.{not-true, not-false}
-use Rattle.error.specs.Refusal.{refusal_of}
+use Rattle.error.proofs.LawsAnswer.{answered_yes, answered_no}
+use Rattle.scripthash_free.specs.Answers.{was_done}
 use Rattle.scripthash_free.specs.FreeList.{Lists, lists, is_gap}
 use Rattle.scripthash_free.proofs.LawsBlock.{Gap, gap_lies}
 use Rattle.scripthash_free.proofs.LawsFree.{after_accepted, after_refused, carve_yes, carve_no}
@@ -32,7 +33,7 @@ returns-then-not-is_gap c =
     let a = c.before.before.before.args in
     let l = lists a.body.now a.heads.now in
     let answer = carve_no a.from a.to l (sym c.before.is_gap.ensures ∙ not-true _ c.if-not-is_gap.true-raw) in
-    (sym (ap refusal_of answer), sym (after_refused _ l answer))
+    (sym (answered_no was_done _ answer), sym (after_refused _ l answer))
 
 push_largest-rest-requires : tie.Need-push_largest-rest-requires
 push_largest-rest-requires c κs =
@@ -56,7 +57,7 @@ returns-then-from-to c =
     let p = c.before.before.before.before.before.before.before in
     let t = p.before.before.before.before in
     let answer = carve_yes (start t).args.from (start t).args.to (whole t) (passed t) in (
-      sym (ap refusal_of answer),
+      sym (answered_yes was_done _ answer),
       c.before.before.push_smaller.ensures ∙ p.push_largest-rest.ensures.1
           ∙ sym (after_accepted _ (whole t) answer),
     )
@@ -65,7 +66,7 @@ returns-else-from-to : tie.Need-returns-else-from-to
 returns-else-from-to c =
     let t = c.before in
     let answer = carve_yes (start t).args.from (start t).args.to (whole t) (passed t) in (
-      sym (ap refusal_of answer),
+      sym (answered_yes was_done _ answer),
       sym (gap_left (start t).args.from (start t).args.to (whole t) (omega arith))
           ∙ sym (after_accepted _ (whole t) answer),
     )

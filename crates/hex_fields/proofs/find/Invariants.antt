@@ -1,9 +1,0 @@
--- `find` gives an index within the bytes, or their length.
-use Rattle.std.proofs.Common.{◌-◌, ◌≤◌, length}
-use Rattle.hex_fields.proofs.find.Given as goal
-
-abbrev pub invariant-loop-i : goal.invariant-loop-i
-invariant-loop-i l = l.i ≤ length l.s
-
-abbrev pub decreases-loop-i : goal.decreases-loop-i
-decreases-loop-i l = length l.s - l.i
