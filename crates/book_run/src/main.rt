@@ -3,13 +3,15 @@
 // answers; a line that isn't numbers is a title, and is written. All keys are desk 0's.
 #![tactic(auto)]
 
+ghost use Rattle.std.specs.Prelude.{◌≤◌, length};
+
 use book_calls::NotRun;
 use std::io;
 use std::io::Read;
-use text::{Numbers, Pieces};
+use text::{Numbers, Pieces, Unheard};
 
 // The most bytes of the input, of which the rest isn't read.
-const INPUT_BYTES: u64 = 65536;
+const INPUT_BYTES: usize = 65536;
 
 // The most bytes of a body, heads, and words of calls and answers.
 const BODY_BYTES: usize = 16384;
@@ -82,17 +84,31 @@ fn run_line<P: Print>(rt: &P, line: &[u8], list: &mut [u64]) -> io::Result<()> {
     }
 }
 
-// Runs the lists of standard input, a line each. Where reading fails the input ends.
-fn run_all<R: Print + Input + AllocGlobal>(rt: &R) -> io::Result<()> {
-    let mut text = Vec::new(rt.alloc());
-    let _ = rt.reader().take(INPUT_BYTES).read_to_end(&mut text);
+// Reads an input to the start of lent room, as far as that reaches, and tells how many bytes. Where reading fails the input ends.
+fn read_input<I: Read>(input: &mut I, room: &mut [u8]) -> usize
+    ensures { result ≤ length room.old }
+{
+    let mut count = 0;
+    for _ in 0..room.len() {
+        match input.read(&mut room[count..]) {
+            Ok(0) | Err(_) => break,
+            Ok(read) => count += read,
+        }
+    }
+    count
+}
+
+// Runs the lists of an input, a line each. The room for the input is no memory that could be refused.
+fn run_all<P: Print, I: Read>(rt: &P, input: &mut I) -> io::Result<()> {
+    let mut text = [0u8; INPUT_BYTES];
+    let len = read_input(input, &mut text);
     let mut list = [0u64; WORDS];
-    for line in Pieces::new(text.as_slice(), b'\n') {
+    for line in Pieces::new(&text[..len], b'\n') {
         run_line(rt, line, &mut list)?;
     }
     Ok(())
 }
 
 fn main(rt: HostRuntime) -> io::Result<()> {
-    run_all(&rt)
+    run_all(&Unheard(&rt), &mut rt.stdin())
 }

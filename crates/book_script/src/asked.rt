@@ -109,7 +109,7 @@ fn making(word: Word, numbers: &[u64]) -> Result<Option<Command<'static>>, Unrea
 }
 
 // What a word asks for, with the numbers behind it; nothing where a line of it has another form.
-fn command_of<'a>(word: Word, numbers: &'a [u64]) -> Result<Option<Command<'a>>, Unread<'a>> {
+fn command_of<'a>(word: Word, numbers: &'a [u64]) -> Result<Option<Command<'a>>, Unread<'static>> {
     let command = match (word, numbers) {
         (Word::Load, [key, list @ ..]) => Command::Load { key: *key, list },
         (Word::LoadTight, [key, list @ ..]) => Command::LoadTight { key: *key, list },
@@ -134,7 +134,7 @@ fn command_of<'a>(word: Word, numbers: &'a [u64]) -> Result<Option<Command<'a>>,
 }
 
 // What a line asks for whose first word is written so, with the numbers behind it.
-fn understood<'a>(written: &[u8], numbers: &'a [u64]) -> Result<Command<'a>, Unread<'a>> {
+fn understood<'a>(written: &[u8], numbers: &'a [u64]) -> Result<Command<'a>, Unread<'static>> {
     let known = WORDS.iter().find(|known| known.1.as_bytes() == written);
     let Some((word, _, form)) = known else {
         return Err(Unread::Form(ALL_WORDS));
@@ -148,11 +148,11 @@ fn between(line: &[u8], start: usize, end: usize) -> &[u8] {
 }
 
 // What a line asks for whose first word begins at an index. Its numbers go to the start of a lent list.
-fn ask_words<'a>(
+fn ask_words<'a, 'b>(
     line: &'a [u8],
     first: usize,
-    list: &'a mut [u64],
-) -> Result<Command<'a>, Unread<'a>>
+    list: &'b mut [u64],
+) -> Result<Command<'b>, Unread<'a>>
     requires { first < length line.now }
 {
     let behind = decimal::word_end(line, first);
@@ -171,8 +171,9 @@ fn ask_words<'a>(
     }
 }
 
-// What a line of a script asks for: nothing where it is empty or a comment. Its numbers go to the start of a lent list.
-pub fn ask<'a>(line: &'a [u8], list: &'a mut [u64]) -> Result<Option<Command<'a>>, Unread<'a>> {
+// What a line of a script asks for: nothing where it is empty or a comment. Its numbers go to the start of a lent list. What is
+// asked for may hold that list; why a line isn't understood holds the line alone.
+pub fn ask<'a, 'b>(line: &'a [u8], list: &'b mut [u64]) -> Result<Option<Command<'b>>, Unread<'a>> {
     let first = decimal::skip_spaces(line, 0);
     if first == line.len() || line[first] == b'#' {
         return Ok(None);
@@ -190,8 +191,8 @@ pub fn echo<P: Print>(rt: &P, line: &[u8]) -> io::Result<()> {
         return Ok(());
     }
     if line[first] != b'#' {
-        print!(rt; "> ")?;
+        rt.write_all(b"> ")?;
     }
     rt.write_all(line)?;
-    println!(rt)
+    rt.write_all(b"\n")
 }

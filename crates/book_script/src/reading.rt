@@ -9,6 +9,8 @@ use std::io::{BufRead, Read};
 pub struct Lines<R: Drop> {
     input: R,
     text: Vec<u8>,
+    // The line that came last had too many bytes: its rest is to be skipped.
+    skips: bool,
     ended: bool,
 }
 
@@ -19,11 +21,11 @@ enum End {
     Line,
     // By the end of the input.
     Input,
-    // It has too many bytes.
+    // It has too many bytes, of which the rest isn't read yet.
     TooLong,
 }
 
-// Reads a line into a text, without its end, and tells how it ended. Of a line that has too many bytes the rest is skipped.
+// Reads a line into a text, without its end, and tells how it ended.
 fn read_line<R: BufRead>(input: &mut R, text: &mut Vec<u8>) -> End {
     text.clear();
     let _ = input
@@ -37,7 +39,6 @@ fn read_line<R: BufRead>(input: &mut R, text: &mut Vec<u8>) -> End {
     if text.len() < LINE_BYTES {
         return End::Input;
     }
-    let _ = input.skip_until(b'\n');
     End::TooLong
 }
 
@@ -48,12 +49,32 @@ impl<R: BufRead + Drop> Lines<R> {
         Ok(Lines {
             input,
             text,
+            skips: false,
             ended: false,
         })
     }
 
-    // The next line without its end, where there is one. The last line may have no end.
+    // Skips the rest of a line that had too many bytes. Where the input ends in it, no more lines come.
+    fn skip_rest(&mut self) {
+        self.skips = false;
+        for _ in 0..u64::MAX {
+            match read_line(&mut self.input, &mut self.text) {
+                End::TooLong => {}
+                End::Line => return,
+                End::Input => {
+                    self.ended = true;
+                    return;
+                }
+            }
+        }
+    }
+
+    // The next line without its end, where there is one. The last line may have no end. That a line has too many bytes is told before its
+    // rest is read.
     pub fn next_line(&mut self) -> Option<Result<&[u8], Unread<'static>>> {
+        if self.skips {
+            self.skip_rest();
+        }
         if self.ended {
             return None;
         }
@@ -63,10 +84,13 @@ impl<R: BufRead + Drop> Lines<R> {
                 self.ended = true;
                 Some(Ok(self.text.as_slice()))
             }
-            End::TooLong => Some(Err(Unread::Past {
-                what: "too many bytes on a line",
-                most: LINE_BYTES,
-            })),
+            End::TooLong => {
+                self.skips = true;
+                Some(Err(Unread::Past {
+                    what: "too many bytes on a line",
+                    most: LINE_BYTES,
+                }))
+            }
         }
     }
 }

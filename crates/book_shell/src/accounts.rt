@@ -5,7 +5,7 @@ use book_desks::desk_of;
 use book_extend::ExtendedBy;
 use book_read::BookRead;
 use book_rules::SlabFit;
-use book_script::{KEYS, Unread, WORK_BYTES};
+use book_script::{BODY_BYTES, KEYS, LINE_BYTES, NUMBERS, Unread, WORK_BYTES};
 use book_start::Verdict;
 use error::Refusal;
 use std::alloc::{AllocError, Global};
@@ -22,14 +22,19 @@ fn first_mut<T>(all: &mut [T], count: usize) -> &mut [T] {
     &mut all[..count]
 }
 
-// The book of a script. A book has no body and no keys until they are asked for, and no keys after another body was.
+// The book of a script. A book has no body and no keys until they are asked for, and no keys after another body was. The memory of all
+// books that a script asks for is made once.
 #[derive(Drop)]
 pub struct Book {
-    // As many bytes as were asked for.
+    // The largest body.
     body: Vec<u8>,
+    // How many bytes of it were asked for.
+    size: usize,
     // The head words of the most keys, and the desk of each.
     heads: Vec<u64>,
     desks: Vec<u8>,
+    // Below which key lines gave keys to desks.
+    told: usize,
     // How many keys were asked for.
     keys: usize,
     mark: u64,
@@ -42,12 +47,15 @@ pub struct Book {
 impl Book {
     // Before a script asks for a book.
     pub fn new(alloc: Global) -> Result<Self, AllocError> {
+        let body = vec![in alloc; 0; BODY_BYTES]?;
         let heads = vec![in alloc; 0; KEYS]?;
         let desks = vec![in alloc; 0; KEYS]?;
         Ok(Book {
-            body: Vec::new(alloc),
+            body,
+            size: 0,
             heads,
             desks,
+            told: 0,
             keys: 0,
             mark: 0,
             free: [0; 9],
@@ -57,20 +65,20 @@ impl Book {
         })
     }
 
-    // A body of so many bytes is asked for. What was told of desks is forgotten: all keys are of desk 0, which has no reserve, and gets all
-    // pages.
-    pub fn set_body(&mut self, alloc: Global, bytes: usize) -> Result<(), AllocError> {
-        self.body = vec![in alloc; 0; bytes]?;
+    // A body of so many bytes is asked for, which holds what the last one left there. What was told of desks is forgotten: all keys are of
+    // desk 0, which has no reserve, and gets all pages.
+    pub fn set_body(&mut self, bytes: usize) {
+        self.size = bytes;
         self.keys = 0;
-        self.desks.fill(0);
+        first_mut(&mut self.desks, self.told).fill(0);
+        self.told = 0;
         self.reserve = [0; 16];
         self.ceiling = [u64::MAX; 16];
-        Ok(())
     }
 
     // There is a body.
     fn has_body(&self) -> Result<(), Unread<'static>> {
-        if self.body.is_empty() {
+        if self.size == 0 {
             return Err(Unread::NoBody);
         }
         Ok(())
@@ -98,6 +106,7 @@ impl Book {
         self.is_unmade()?;
         if let Some(of_key) = self.desks.get_mut(key) {
             *of_key = (desk % 0x100) as u8;
+            self.told = self.told.max(key.saturating_add(1));
         }
         Ok(())
     }
@@ -131,7 +140,7 @@ impl Book {
         self.free = [0; 9];
         self.counts = [0; 49];
         book_start::fresh(
-            self.body.as_slice(),
+            first(&self.body, self.size),
             first_mut(&mut self.heads, keys),
             &mut self.mark,
             &mut self.free,
@@ -140,13 +149,13 @@ impl Book {
             &self.reserve,
             &self.ceiling,
         )?;
-        Ok(self.body.len())
+        Ok(self.size)
     }
 
     // Loads a list onto a key, and tells how many pages that took.
     pub fn load(&mut self, fit: SlabFit, key: u64, list: &[u64]) -> Result<u64, Refusal> {
         book_load::load(
-            &mut self.body,
+            first_mut(&mut self.body, self.size),
             first_mut(&mut self.heads, self.keys),
             &mut self.mark,
             &mut self.free,
@@ -161,7 +170,7 @@ impl Book {
     // Appends a number to a key.
     pub fn append(&mut self, key: u64, n: u64) -> Result<AppendedTo, Refusal> {
         book_append::append(
-            &mut self.body,
+            first_mut(&mut self.body, self.size),
             first_mut(&mut self.heads, self.keys),
             &mut self.mark,
             &mut self.free,
@@ -175,7 +184,7 @@ impl Book {
     // Appends numbers to a key one after another, up to the first that is refused.
     pub fn extend(&mut self, key: u64, list: &[u64]) -> Result<ExtendedBy, Refusal> {
         book_extend::extend(
-            &mut self.body,
+            first_mut(&mut self.body, self.size),
             first_mut(&mut self.heads, self.keys),
             &mut self.mark,
             &mut self.free,
@@ -186,15 +195,32 @@ impl Book {
         )
     }
 
-    // Reads a key into the start of a list.
-    pub fn read(&self, key: u64, list: &mut [u64]) -> Result<BookRead, Refusal> {
-        book_read::read(&self.body, self.heads(), self.mark, key, list)
+    // Reads a key into the start of a list, where there is room for all of it. While the list is shorter than the room and too short for
+    // the key, it grows, each time by as many numbers as a line has bytes: few keys are long, and memory is taken for those alone.
+    pub fn read(
+        &self,
+        key: u64,
+        room: usize,
+        list: &mut Vec<u64>,
+    ) -> Result<BookRead, Turned<'static>> {
+        for _ in 0..=NUMBERS / LINE_BYTES {
+            let lent = first_mut(list, room);
+            let is_short = lent.len() < room;
+            match book_read::read(self.body(), self.heads(), self.mark, key, lent) {
+                Err(Refusal::ListTooShort) if is_short => {
+                    list.reserve_exact(LINE_BYTES)?;
+                    list.resize(list.len().saturating_add(LINE_BYTES), 0)?;
+                }
+                read => return Ok(read?),
+            }
+        }
+        Err(Turned::Refused(Refusal::ListTooShort))
     }
 
     // Empties a key, and tells how many numbers it had.
     pub fn drop_key(&mut self, key: u64) -> Result<u64, Refusal> {
         book_drop::drop(
-            &mut self.body,
+            first_mut(&mut self.body, self.size),
             first_mut(&mut self.heads, self.keys),
             &mut self.mark,
             &mut self.free,
@@ -208,7 +234,7 @@ impl Book {
     pub fn check(&self) -> Result<Verdict, Refusal> {
         let mut work = [0u8; WORK_BYTES];
         book_start::judge_start(
-            &self.body,
+            self.body(),
             self.heads(),
             self.mark,
             self.free,
@@ -218,6 +244,11 @@ impl Book {
         )
     }
 
+    // The bytes of the body.
+    fn body(&self) -> &[u8] {
+        first(&self.body, self.size)
+    }
+
     // The head words of the keys.
     pub fn heads(&self) -> &[u64] {
         first(&self.heads, self.keys)
@@ -225,6 +256,6 @@ impl Book {
 
     // Writes the mark and the freed blocks.
     pub fn show_space<P: Print>(&self, rt: &P) -> io::Result<()> {
-        book_script::space(rt, &self.body, self.mark, &self.free)
+        book_script::space(rt, self.body(), self.mark, &self.free)
     }
 }

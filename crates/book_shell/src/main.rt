@@ -12,10 +12,11 @@ mod turned;
 
 use accounts::Book;
 use book_rules::SlabFit;
-use book_script::{Command, Lines, NUMBERS, Unread};
+use book_script::{Command, LINE_BYTES, Lines, Unread};
 use judged::Judged;
 use std::io;
 use std::io::BufReader;
+use text::Unheard;
 use turned::Turned;
 
 // Loads a list onto a key.
@@ -47,15 +48,16 @@ fn extend<P: Print>(
     Err(Turned::Stopped { n, refusal })
 }
 
-// Reads the list of a key, where there is room for all of it.
-fn read<R: Print + AllocGlobal>(
-    rt: &R,
+// Reads the list of a key into a lent list, where there is room for all of it.
+fn read<P: Print>(
+    rt: &P,
     book: &Book,
     key: u64,
     room: usize,
+    list: &mut Vec<u64>,
 ) -> Result<(), Turned<'static>> {
-    let mut list = vec![in rt.alloc(); 0; room]?;
-    let read = book.read(key, &mut list)?;
+    book.is_made()?;
+    let read = book.read(key, room, list)?;
     let listed = list.as_slice();
     book_script::listed(
         rt,
@@ -66,12 +68,8 @@ fn read<R: Print + AllocGlobal>(
     Ok(())
 }
 
-// Does what is asked for on the book, where there is one.
-fn on_book<R: Print + AllocGlobal>(
-    rt: &R,
-    book: &mut Book,
-    command: Command<'_>,
-) -> Result<(), Turned<'static>> {
+// Does what is asked for on the book, where there is one; all but a read, which a list is lent to.
+fn on_book<P: Print>(rt: &P, book: &mut Book, command: Command<'_>) -> Result<(), Turned<'static>> {
     book.is_made()?;
     match command {
         Command::Load { key, list } => load(rt, book, SlabFit::Spare, key, list)?,
@@ -81,7 +79,6 @@ fn on_book<R: Print + AllocGlobal>(
             book_script::appended(rt, to.place, to.rewritten)?;
         }
         Command::Extend { key, list } => extend(rt, book, key, list)?,
-        Command::Read { key, room } => read(rt, book, key, room)?,
         Command::Drop { key } => book_script::dropped(rt, book.drop_key(key)?)?,
         Command::Places => book_script::places(rt, book.heads())?,
         Command::Check => {
@@ -93,16 +90,12 @@ fn on_book<R: Print + AllocGlobal>(
     Ok(())
 }
 
-// Does what is asked for.
-fn act<R: Print + AllocGlobal>(
-    rt: &R,
-    book: &mut Book,
-    command: Command<'_>,
-) -> Result<(), Turned<'static>> {
+// Does what is asked for; all but a read, which a list is lent to.
+fn act<P: Print>(rt: &P, book: &mut Book, command: Command<'_>) -> Result<(), Turned<'static>> {
     match command {
         Command::Help => book_script::help(rt)?,
         Command::Body(bytes) => {
-            book.set_body(rt.alloc(), bytes)?;
+            book.set_body(bytes);
             book_script::body_made(rt, bytes as u64)?;
         }
         Command::Desk { key, desk } => {
@@ -126,16 +119,17 @@ fn act<R: Print + AllocGlobal>(
     Ok(())
 }
 
-// Does a line. Its numbers go to the start of a lent list.
-fn answer<'a, R: Print + AllocGlobal>(
-    rt: &R,
+// Does a line. Its numbers go to the start of a lent list, and so do those that it reads.
+fn answer<'a, P: Print>(
+    rt: &P,
     line: Result<&'a [u8], Unread<'a>>,
-    list: &'a mut [u64],
+    list: &mut Vec<u64>,
     book: &mut Book,
 ) -> Result<(), Turned<'a>> {
     let text = line?;
     book_script::echo(rt, text)?;
     match book_script::ask(text, list)? {
+        Some(Command::Read { key, room }) => read(rt, book, key, room, list),
         Some(command) => act(rt, book, command),
         None => Ok(()),
     }
@@ -175,10 +169,12 @@ impl Tally {
     }
 }
 
-// Does the lines of an input, one after another, until no more come.
+// Does the lines of an input, one after another, until no more come. What can't be written is lost, and the next line is done.
 fn run<R: Print + Input + AllocGlobal>(rt: &R) -> io::Result<()> {
+    let out = Unheard(rt);
     let mut lines = Lines::new(rt.alloc(), BufReader::new(rt.alloc(), rt.reader())?)?;
-    let mut list = vec![in rt.alloc(); 0; NUMBERS]?;
+    // A line has fewer numbers than bytes.
+    let mut list = vec![in rt.alloc(); 0; LINE_BYTES]?;
     let mut book = Book::new(rt.alloc())?;
     let mut tally = Tally {
         refused: 0,
@@ -188,10 +184,10 @@ fn run<R: Print + Input + AllocGlobal>(rt: &R) -> io::Result<()> {
         let Some(line) = lines.next_line() else {
             break;
         };
-        let done = answer(rt, line, &mut list, &mut book);
-        tally.count(rt, number, done)?;
+        let done = answer(&out, line, &mut list, &mut book);
+        tally.count(&out, number, done)?;
     }
-    book_script::ended(rt, tally.refused, tally.unread)
+    book_script::ended(&out, tally.refused, tally.unread)
 }
 
 fn main(rt: HostRuntime) -> io::Result<()> {

@@ -12,13 +12,15 @@ use hex_fields::{field, title};
 use memory::Book;
 use std::io;
 use std::rt::Files;
-use text::Pieces;
+use text::{Pieces, Unheard};
 
-// Replays a line on our book: makes its call, or writes what somebody else wrote. Tells whether the call answers what the line says.
-fn replay_ours(line: &[u8], ours: &mut Book) -> bool {
+// Replays a line on our book: makes its call, or writes what somebody else wrote. Tells whether the call answers what the line says. Words
+// with places behind ours, which only a damaged line has, are put to the book that is wanted, where they show as what differs.
+fn replay_ours(line: &[u8], ours: &mut Book, wanted: &mut Book) -> bool {
     match kind_of(line) {
         Some(Kind::Written | Kind::Begins) => {
             changes::make(field(line, 6), ours);
+            changes::put_behind(field(line, 6), wanted);
             true
         }
         _ => calls::agrees(line, ours),
@@ -27,7 +29,7 @@ fn replay_ours(line: &[u8], ours: &mut Book) -> bool {
 
 // Replays a line, and then compares our book with the one that is wanted, which the line changes.
 fn replay(line: &[u8], ours: &mut Book, wanted: &mut Book) -> bool {
-    let agrees = replay_ours(line, ours);
+    let agrees = replay_ours(line, ours, wanted);
     changes::make(field(line, 6), wanted);
     agrees && *ours == *wanted
 }
@@ -92,7 +94,7 @@ fn replay_files<R: Print + Files + AllocGlobal>(rt: &R) -> io::Result<()> {
         let Some(text) = hex_fields::read_file(rt, name.as_str())? else {
             break;
         };
-        replay_all(rt, text.as_slice())?;
+        replay_all(&Unheard(rt), text.as_slice())?;
     }
     Ok(())
 }

@@ -8,6 +8,8 @@ pub const DESKS: usize = 32;
 pub const BODY: usize = 61440;
 
 pub const NUMBERS: usize = 16384;
+// The words of a book: its mark, its free heads, its counts and its head words.
+pub const WORDS: usize = 65;
 
 // A book with the largest body.
 #[derive(PartialEq, Drop)]
@@ -31,7 +33,8 @@ impl Book {
         }
     }
 
-    // Puts a word to its place among the mark, the free heads, the counts and the head words, in this order.
+    // Puts a word to its place among the mark, the free heads, the counts and the head words, in this order. A book has WORDS of them, and
+    // another place puts nothing.
     pub fn set_word(&mut self, place: usize, word: u64) {
         match place {
             0 => self.mark = word,

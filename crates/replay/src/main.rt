@@ -13,30 +13,39 @@ use call::Answer;
 use hex_fields::{field, first_numbers, hex, part, title};
 use std::io;
 use std::rt::Files;
-use text::Pieces;
+use text::{Pieces, Unheard};
 
 // The most bytes and numbers of an answer.
 const MOST_BYTES: usize = 4097;
 
 const MOST_NUMBERS: usize = 65536;
 
-// A buffer and a list hold what the last two fields of a line say.
-fn leaves(line: &[u8], bytes: &[u8], list: &[u64]) -> bool {
+// A buffer holds the bytes that a field says.
+fn holds_bytes(field: &[u8], bytes: &[u8]) -> bool {
     let mut wanted = [0u8; MOST_BYTES];
-    hex_fields::bytes(field(line, 5), &mut wanted);
-    if !wanted.starts_with(bytes) {
-        return false;
-    }
-    let mut numbers = [0u64; MOST_NUMBERS];
-    let count = hex_fields::numbers(field(line, 6), &mut numbers);
-    count == list.len() && numbers.starts_with(list)
+    hex_fields::bytes(field, &mut wanted);
+    wanted.starts_with(bytes)
 }
 
-// An answer has the refusal of a line, and tells the numbers that the line says.
+// A list holds the numbers that a field says. The room for these is a function's of its own: it is large, and is cleared once so.
+fn holds_numbers(field: &[u8], list: &[u64]) -> bool {
+    let mut wanted = [0u64; MOST_NUMBERS];
+    let count = hex_fields::numbers(field, &mut wanted);
+    count == list.len() && wanted.starts_with(list)
+}
+
+// A buffer and a list hold what the last two fields of a line say.
+fn leaves(line: &[u8], bytes: &[u8], list: &[u64]) -> bool {
+    holds_bytes(field(line, 5), bytes) && holds_numbers(field(line, 6), list)
+}
+
+// An answer has the refusal of a line, and tells the numbers that the line says, of which a fifth is the refusal once more.
 fn tells(line: &[u8], answer: Answer) -> bool {
-    let mut wanted = answer.told;
+    let [a, b, c, d] = answer.told;
+    let told = [a, b, c, d, u64::from(answer.refusal)];
+    let mut wanted = told;
     hex_fields::numbers(field(line, 4), &mut wanted);
-    u64::from(answer.refusal) == hex(part(line, 2, 4)) && answer.told == wanted
+    told[4] == hex(part(line, 2, 4)) && told == wanted
 }
 
 // Calls the function of a line, and compares what it answers and leaves.
@@ -86,7 +95,7 @@ fn replay_all<P: Print>(rt: &P, text: &[u8]) -> io::Result<()> {
 fn replay_file<R: Print + Files + AllocGlobal>(rt: &R, name: &str) -> io::Result<bool> {
     match hex_fields::read_file(rt, name)? {
         Some(text) => {
-            replay_all(rt, text.as_slice())?;
+            replay_all(&Unheard(rt), text.as_slice())?;
             Ok(true)
         }
         None => Ok(false),

@@ -2,7 +2,7 @@
 #![tactic(auto)]
 
 use std::io;
-use text::Bytes;
+use text::{Bytes, Unheard};
 
 // Writes n to the start of dst, shows what was written, and answers its bytes; none where it was refused.
 fn show_write<'a, P: Print>(rt: &P, dst: &'a mut [u8], n: u64) -> io::Result<&'a [u8]> {
@@ -101,8 +101,9 @@ fn one_byte_of_room<P: Print>(rt: &P) -> io::Result<()> {
 }
 
 fn main(rt: HostRuntime) -> io::Result<()> {
-    dwarf_examples(&rt)?;
-    uleb128_specimens(&rt)?;
-    boundaries(&rt)?;
-    one_byte_of_room(&rt)
+    let out = Unheard(&rt);
+    dwarf_examples(&out)?;
+    uleb128_specimens(&out)?;
+    boundaries(&out)?;
+    one_byte_of_room(&out)
 }

@@ -1,10 +1,10 @@
 // What the programs read and write as text: where a byte stands, pieces that a byte ends, lists of numbers in decimal, bytes in hexadecimal.
 #![tactic(auto)]
 
-ghost use Rattle.std.specs.Prelude.{◌≡◌, ℕ, ◌<◌, ◌≤◌, ◌≢◌, length, slice_index};
+ghost use Rattle.std.specs.Prelude.{◌≡◌, ℕ, ◌<◌, ◌≤◌, ◌≢◌, length, slice_index, IsOk};
 ghost use Rattle.std.specs.Iterator.{at_most};
 
-use std::fmt;
+use std::{fmt, io};
 
 // The index of the first b from one index of a text up to another, or that other where there is none.
 pub fn find(text: &[u8], start: usize, end: usize, b: u8) -> usize
@@ -75,6 +75,34 @@ impl fmt::Display for Numbers<'_> {
         for n in self.0 {
             write!(f, " {n}")?;
         }
+        Ok(())
+    }
+}
+
+// Standard output, or another output, whose failures are passed over: what can't be written is lost, and the program goes on, with the status
+// of what it did.
+#[derive(Clone, Copy)]
+pub struct Unheard<'a, P>(pub &'a P);
+
+impl<P: Print> Print for Unheard<'_, P> {
+    fn print<D: fmt::Display + Drop>(&self, value: D) -> io::Result<()>
+        ensures { IsOk result }
+    {
+        let _ = self.0.print(value);
+        Ok(())
+    }
+
+    fn println<D: fmt::Display + Drop>(&self, value: D) -> io::Result<()>
+        ensures { IsOk result }
+    {
+        let _ = self.0.println(value);
+        Ok(())
+    }
+
+    fn write_all(&self, bytes: &[u8]) -> io::Result<()>
+        ensures { IsOk result }
+    {
+        let _ = self.0.write_all(bytes);
         Ok(())
     }
 }
