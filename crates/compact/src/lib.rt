@@ -46,8 +46,10 @@ fn ends_shortest(len: usize, b: u8) -> bool
     len <= 1 || b != 0
 }
 
-// The number at the start of buf, whose form may be padded; what follows the form doesn't matter.
-pub fn read_uleb128(buf: &[u8]) -> Result<NumberRead, Refusal>
+// The number at the start of buf, whose form may be padded; what follows the form doesn't matter. Laid into its callers: what an export hands
+// out doesn't go through memory.
+#[inline(always)]
+pub fn read_form(buf: &[u8]) -> Result<NumberRead, Refusal>
     ensures { read_uleb_answer result ≡ answered number_read (read_uleb buf.now) }
 {
     let mut value: u64 = 0;
@@ -73,6 +75,14 @@ pub fn read_uleb128(buf: &[u8]) -> Result<NumberRead, Refusal>
         return Err(Refusal::UlebCutShort);
     }
     Err(Refusal::UlebOverflow)
+}
+
+// The same as a function of its own, for loops that read forms.
+#[inline(never)]
+pub fn read_uleb128(buf: &[u8]) -> Result<NumberRead, Refusal>
+    ensures { read_uleb_answer result ≡ answered number_read (read_uleb buf.now) }
+{
+    read_form(buf)
 }
 
 // Writes n's shortest form to the start of dst, where it has room, and tells its length.

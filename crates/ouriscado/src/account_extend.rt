@@ -15,7 +15,8 @@ use book_extend::ExtendedBy;
 use error::Refusal;
 
 // Hands out how many numbers were accepted, by which number the next one was refused, the key's place, the moves and the records
-// rewritten by them.
+// rewritten by them. Laid into its callers, as `put_head` is.
+#[inline(always)]
 fn put_extended(
     answer: Result<ExtendedBy, Refusal>,
     accepted: &mut u64,

@@ -11,7 +11,8 @@ use book_append::AppendedTo;
 use book_read::BookRead;
 use error::Refusal;
 
-// Hands out a key's new place, and the records rewritten.
+// Hands out a key's new place, and the records rewritten. Laid into its callers, as `put_head` is.
+#[inline(always)]
 pub fn put_appended(
     answer: Result<AppendedTo, Refusal>,
     kind: &mut u8,

@@ -148,7 +148,8 @@ fn place_of(v: ShHeadValue) -> u64
     }
 }
 
-// Hands out a head value, or zeros where it is refused.
+// Hands out a head value, or zeros where it is refused. Laid into its callers, so that no value goes through memory.
+#[inline(always)]
 pub fn put_head(
     got: Result<ShHeadValue, Refusal>,
     kind: &mut u8,

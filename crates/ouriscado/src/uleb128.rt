@@ -27,7 +27,7 @@ pub extern "C" fn ouriscado_read_uleb128(
     ensures len { len.new ≡ value_or (λ x. x.len) (read_uleb buf.now) 0 }
     ensures shortest { shortest.new ≡ value_or (λ x. not (padded x)) (read_uleb buf.now) false }
 {
-    match compact::read_uleb128(buf) {
+    match compact::read_form(buf) {
         Ok(read) => {
             *value = read.value;
             *len = read.len;

@@ -159,17 +159,6 @@ fn check_count(n: usize, start: usize) -> Result<(), Refusal>
     Ok(())
 }
 
-// A version that a page with n numbers may have.
-fn version_known(version: u8, n: usize) -> bool
-    ensures { result ≡ (eqb version 1 || eqb version 2 || (eqb version 0 && eqb n 0)) }
-{
-    match version {
-        SH_PAGE_DELTA_VER | SH_PAGE_EXTENT_VER => true,
-        0 => n == 0,
-        _ => false,
-    }
-}
-
 // A page's link.
 #[tactic(auto, unfolding(crate::specs::Fields::read_link, error::specs::Refusal::refuse_if))]
 pub fn sh_page_read_packed(page: &[u8]) -> Result<PageLink, Refusal>
@@ -210,13 +199,15 @@ pub fn sh_page_require_delta(page: &[u8]) -> Result<(), Refusal>
 {
     whole_page(page)?;
     let n = usize::from(buffer::get_u16(page, SH_PAGE_OFF_N_FKS));
-    let version = version_of(page);
-    if version == SH_PAGE_EXTENT_VER {
-        return check_count(n, SH_PAGE_EXTENT_HEADER_LEN);
+    match version_of(page) {
+        SH_PAGE_EXTENT_VER => check_count(n, SH_PAGE_EXTENT_HEADER_LEN),
+        SH_PAGE_DELTA_VER => check_count(n, SH_PAGE_HEADER_LEN),
+        version => {
+            check_count(n, SH_PAGE_HEADER_LEN)?;
+            if version == 0 && n == 0 {
+                return Ok(());
+            }
+            Err(Refusal::VersionBad)
+        }
     }
-    check_count(n, SH_PAGE_HEADER_LEN)?;
-    if !version_known(version, n) {
-        return Err(Refusal::VersionBad);
-    }
-    Ok(())
 }

@@ -1,7 +1,7 @@
 // Runs of forms of one byte each, as differences below 128 have, behind a first number of any length: the bytes are tested together and
 // summed up.
 ghost use Rattle.std.specs.Prelude.{◌≡◌, true, ◌+◌, ◌*◌, ◌^◌, ◌≤◌, ◌<◌, length};
-ghost use Rattle.scripthash_words.specs.Words.{FirstNumber, OnesAt, RestRead};
+ghost use Rattle.scripthash_words.specs.Words.{OnesAt, RestRead};
 
 use crate::first::First;
 use crate::values::sum_up;
@@ -21,7 +21,7 @@ fn all_ones(bytes: &[u8]) -> bool
 
 // Fills out with the numbers behind a stream's first, where each takes one byte: tells the place behind them, or 0 and leaves out.
 pub fn read_ones(buf: &[u8], first: First, out: &mut [u64]) -> usize
-    requires { FirstNumber first.fk first.len buf.now × (length out.old ≤ 65535) × (first.fk + 2 ^ 32 * length out.old < 2 ^ 63) }
+    requires { (first.len ≤ length buf.now) × (length out.old ≤ 65535) × (first.fk + 2 ^ 32 * length out.old < 2 ^ 63) }
     ensures { RestRead result buf.now first.len first.fk (length out.old) (first.fk + 2 ^ 32 * length out.old + 1) out.old out.new 0 }
 {
     if buf.len() - first.len < out.len() {

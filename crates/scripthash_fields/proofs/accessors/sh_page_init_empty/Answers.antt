@@ -1,8 +1,7 @@
 -- `sh_page_init_empty`: zeros with the version and LAST written.
 use Prim.Native.Nat.{ℕ}
-use mathlib.Core.Path.{◌≡◌, sym, ap, ◌∙◌}
+use mathlib.Core.Path.{ap, ◌∙◌}
 use lib.ListN.{replicate, set}
-use Rattle.scripthash_layout.specs.Sizes.{page_size}
 use Rattle.scripthash_fields.specs.Fields.{init_empty}
 use Rattle.scripthash_fields.proofs.LawsPage.{page_yes}
 use Rattle.scripthash_fields.proofs.LawsFields.{empty_written, set_yes}

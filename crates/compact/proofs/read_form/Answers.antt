@@ -1,4 +1,4 @@
--- `read_uleb128` meets its contract: each way on from an index is one law of `LawsReadFrom`.
+-- `read_form` meets its contract: each way on from an index is one law of `LawsReadFrom`.
 use Prim.Native.Nat.{ℕ, ◌+◌, ◌-◌, ◌*◌, ◌^◌, ◌%◌, ◌≤◌, ◌<◌}
 use mathlib.Core.Bool.{true, false}
 use mathlib.Core.Path.{◌≡◌, sym, ◌∙◌, ap}
@@ -12,7 +12,7 @@ use Rattle.error.proofs.LawsAnswer.{answered_yes, answered_no}
 use Rattle.compact.specs.Uleb128.{piece, passes, read_uleb, number_read}
 use Rattle.compact.proofs.LawsReadFrom.{read_from, from_start, from_nil, at_over, at_last, at_more, Room, room}
 use Rattle.compact.proofs.LawsPadded.{read_last}
-use Rattle.compact.proofs.read_uleb128.Goals as goal
+use Rattle.compact.proofs.read_form.Goals as goal
 
 -- bytes that end where a byte is wanted
 ended : (buf : List ℕ) (i acc : ℕ) → read_from i acc (drop i buf) ≡ read_uleb buf → length buf ≤ i → i ≤ 10

@@ -1,11 +1,11 @@
--- What the loop of `read_uleb128` keeps: reading resumed at index i, with the value of the pieces before it, gives the answer for the whole
+-- What the loop of `read_form` keeps: reading resumed at index i, with the value of the pieces before it, gives the answer for the whole
 -- buffer.
 use Rattle.std.proofs.Common.{length, ◌≡◌, ◌≤◌, ◌<◌, ◌*◌}
 use Prim.Native.Nat.{◌^◌}
 use lib.ListN.{drop}
 use Rattle.compact.specs.Uleb128.{read_uleb}
 use Rattle.compact.proofs.LawsReadFrom.{read_from}
-use Rattle.compact.proofs.read_uleb128.Given as goal
+use Rattle.compact.proofs.read_form.Given as goal
 
 abbrev pub invariant-loop-i : goal.invariant-loop-i
 invariant-loop-i l = record {
