@@ -79,8 +79,8 @@ impl fmt::Display for Numbers<'_> {
     }
 }
 
-// Standard output, or another output, whose failures are passed over: what can't be written is lost, and the program goes on, with the status
-// of what it did.
+// Standard output, or another output, whose failures are passed over: what can't be written is lost, and the program goes on, with the
+// status of what it did.
 #[derive(Clone, Copy)]
 pub struct Unheard<'a, P>(pub &'a P);
 
