@@ -214,6 +214,7 @@ impl Book {
                 read => return Ok(read?),
             }
         }
+        // Not reached: the list has room for every key by then.
         Err(Turned::Refused(Refusal::ListTooShort))
     }
 
