@@ -13,7 +13,9 @@ pub use asked::{Command, ask, echo};
 pub use helped::help;
 pub use reading::Lines;
 pub use refusals::{refused, stopped};
-pub use reports::{BODY_BYTES, DESKS, KEYS, LINE_BYTES, NUMBERS, Unread, WORK_BYTES, report};
+pub use reports::{
+    BODY_BYTES, DESKS, KEYS, LINE_BYTES, LISTED, NUMBERS, Unread, WORK_BYTES, report,
+};
 pub use said::{
     appended, body_made, ceiling_told, desk_told, dropped, ended, extended, keys_made, listed,
     loaded, reserve_told,

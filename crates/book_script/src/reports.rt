@@ -11,6 +11,8 @@ pub const KEYS: usize = 65536;
 pub const DESKS: usize = 16;
 // The bytes of a body.
 pub const BODY_BYTES: usize = 262144;
+// The numbers that a key can have: each takes a byte at least of the largest body, whose first page of 4,096 bytes holds none.
+pub const LISTED: usize = BODY_BYTES - 4096;
 // The work list of a check: a byte for each 128 bytes of the largest body.
 pub const WORK_BYTES: usize = 2048;
 
@@ -37,7 +39,7 @@ pub enum Unread<'a> {
 fn report_word<P: Print>(rt: &P, what: &str, word: &[u8]) -> io::Result<()> {
     print!(rt; "expected {what}, found ")?;
     rt.write_all(word)?;
-    println!(rt)
+    rt.write_all(b"\n")
 }
 
 // Reports the line of a number, which isn't understood.
@@ -48,10 +50,10 @@ pub fn report<P: Print>(rt: &P, number: u64, why: Unread<'_>) -> io::Result<()> 
         Unread::Past { what, most } => println!(rt; "{what}, the most here is {most}"),
         Unread::NotANumber(word) => report_word(rt, "a number", word),
         Unread::TooLarge(word) => report_word(rt, "a number below 2^64", word),
-        Unread::NoBook => println!(rt; "no book yet: type body BYTES, then keys COUNT"),
-        Unread::NoBody => println!(rt; "no body yet: type body BYTES first"),
+        Unread::NoBook => print!(rt; "no book yet: type body BYTES, then keys COUNT\n"),
+        Unread::NoBody => print!(rt; "no body yet: type body BYTES first\n"),
         Unread::MadeAlready => {
-            println!(rt; "the book is made: desks are told between body BYTES and keys COUNT")
+            print!(rt; "the book is made: desks are told between body BYTES and keys COUNT\n")
         }
     }
 }

@@ -2,18 +2,14 @@
 use scripthash_layout::ShHeadValue;
 use std::{fmt, io};
 
-// A number of things, in the singular where it is 1.
+// A number of things, and what stands behind it where it is 1, and where it isn't.
 #[derive(Clone, Copy)]
-struct Counted(u64, &'static str);
+struct Counted(u64, &'static str, &'static str);
 
 impl fmt::Display for Counted {
     fn fmt<W: fmt::Write>(&self, f: &mut fmt::Formatter<W>) -> fmt::Result {
-        let Counted(n, one) = *self;
-        write!(f, "{n} {one}")?;
-        if n == 1 {
-            return Ok(());
-        }
-        write!(f, "s")
+        let Counted(n, one, many) = *self;
+        write!(f, "{n}{}", if n == 1 { one } else { many })
     }
 }
 
@@ -36,7 +32,7 @@ impl fmt::Display for Place {
 
 // A body was asked for.
 pub fn body_made<P: Print>(rt: &P, size: u64) -> io::Result<()> {
-    println!(rt; "body of {size} bytes")
+    print!(rt; "body of {size} bytes\n")
 }
 
 // The desk of a key was told.
@@ -46,38 +42,44 @@ pub fn desk_told<P: Print>(rt: &P, key: u64, desk: u64) -> io::Result<()> {
 
 // The reserve of a desk was told.
 pub fn reserve_told<P: Print>(rt: &P, desk: u64, pages: u64) -> io::Result<()> {
-    println!(rt; "desk {desk} has a reserve of {}", Counted(pages, "page"))
+    print!(rt;
+        "desk {desk} has a reserve of {}",
+        Counted(pages, " page\n", " pages\n")
+    )
 }
 
 // The ceiling of a desk was told.
 pub fn ceiling_told<P: Print>(rt: &P, desk: u64, pages: u64) -> io::Result<()> {
-    println!(rt; "desk {desk} has a ceiling of {}", Counted(pages, "page"))
+    print!(rt;
+        "desk {desk} has a ceiling of {}",
+        Counted(pages, " page\n", " pages\n")
+    )
 }
 
 // A book was made fresh.
 pub fn keys_made<P: Print>(rt: &P, keys: u64, size: u64) -> io::Result<()> {
-    println!(rt;
-        "{} over {}: a fresh book",
-        Counted(keys, "key"),
-        Counted(size, "byte")
+    print!(rt;
+        "{}{}",
+        Counted(keys, " key over ", " keys over "),
+        Counted(size, " byte: a fresh book\n", " bytes: a fresh book\n")
     )
 }
 
 // A list was loaded.
 pub fn loaded<P: Print>(rt: &P, numbers: u64, pages: u64) -> io::Result<()> {
-    println!(rt;
-        "loaded: {}, {}",
-        Counted(numbers, "number"),
-        Counted(pages, "page")
+    print!(rt;
+        "loaded: {}{}",
+        Counted(numbers, " number, ", " numbers, "),
+        Counted(pages, " page\n", " pages\n")
     )
 }
 
 // A number was appended.
 pub fn appended<P: Print>(rt: &P, to: ShHeadValue, rewritten: u64) -> io::Result<()> {
-    println!(rt;
-        "appended: {}; {} rewritten",
+    print!(rt;
+        "appended: {}; {}",
         Place(to),
-        Counted(rewritten, "record")
+        Counted(rewritten, " record rewritten\n", " records rewritten\n")
     )
 }
 
@@ -89,25 +91,25 @@ pub fn extended<P: Print>(
     moves: u64,
     rewritten: u64,
 ) -> io::Result<()> {
-    println!(rt;
-        "extended: {}; {}; {}, {} rewritten",
-        Counted(count, "number"),
+    print!(rt;
+        "extended: {}{}; {}{}",
+        Counted(count, " number; ", " numbers; "),
         Place(to),
-        Counted(moves, "move"),
-        Counted(rewritten, "record")
+        Counted(moves, " move, ", " moves, "),
+        Counted(rewritten, " record rewritten\n", " records rewritten\n")
     )
 }
 
 // A list was read; so many of its numbers are padded.
 pub fn listed<P: Print>(rt: &P, list: &[u64], pages: u64, padded: u64) -> io::Result<()> {
     if list.is_empty() {
-        return println!(rt; "read: nothing is recorded");
+        return print!(rt; "read: nothing is recorded\n");
     }
     let length = list.len() as u64;
     print!(rt;
-        "read: {}, {}",
-        Counted(length, "number"),
-        Counted(pages, "page")
+        "read: {}{}",
+        Counted(length, " number, ", " numbers, "),
+        Counted(pages, " page", " pages")
     )?;
     if padded != 0 {
         print!(rt; ", {padded} padded")?;
@@ -117,14 +119,14 @@ pub fn listed<P: Print>(rt: &P, list: &[u64], pages: u64, padded: u64) -> io::Re
 
 // A list was dropped.
 pub fn dropped<P: Print>(rt: &P, length: u64) -> io::Result<()> {
-    println!(rt; "dropped: {}", Counted(length, "number"))
+    print!(rt; "dropped: {}", Counted(length, " number\n", " numbers\n"))
 }
 
 // No more lines come: so many were refused, and so many not understood.
 pub fn ended<P: Print>(rt: &P, refused: u64, unread: u64) -> io::Result<()> {
-    println!(rt;
-        "{} refused, {} not understood",
-        Counted(refused, "line"),
-        Counted(unread, "line")
+    print!(rt;
+        "{}{}",
+        Counted(refused, " line refused, ", " lines refused, "),
+        Counted(unread, " line not understood\n", " lines not understood\n")
     )
 }

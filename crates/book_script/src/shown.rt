@@ -4,9 +4,10 @@ use std::io;
 
 // Writes the place of a key, which a head word stores.
 fn show_key<P: Print>(rt: &P, key: usize, word: u64) -> io::Result<()> {
+    print!(rt; "key {key}: ")?;
     match scripthash_layout::unpack8(word) {
-        Ok(place) => println!(rt; "key {key}: {}", Place(place)),
-        Err(refusal) => println!(rt; "key {key}: no place, refused {}", u32::from(refusal)),
+        Ok(place) => println!(rt; "{}", Place(place)),
+        Err(refusal) => println!(rt; "no place, refused {}", u32::from(refusal)),
     }
 }
 
@@ -47,7 +48,7 @@ pub fn space<P: Print>(rt: &P, body: &[u8], mark: u64, free: &[u64; 9]) -> io::R
         if *head != 0 {
             print!(rt; "freed, class {class}:")?;
             show_blocks(rt, body, *head)?;
-            println!(rt)?;
+            rt.write_all(b"\n")?;
         }
     }
     Ok(())

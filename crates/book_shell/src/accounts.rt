@@ -5,10 +5,9 @@ use book_desks::desk_of;
 use book_extend::ExtendedBy;
 use book_read::BookRead;
 use book_rules::SlabFit;
-use book_script::{BODY_BYTES, KEYS, LINE_BYTES, NUMBERS, Unread, WORK_BYTES};
+use book_script::{Unread, WORK_BYTES};
 use book_start::Verdict;
 use error::Refusal;
-use std::alloc::{AllocError, Global};
 use std::io;
 
 // The first so many of some things; all where there are fewer.
@@ -16,23 +15,23 @@ fn first<T>(all: &[T], count: usize) -> &[T] {
     &all[..count.min(all.len())]
 }
 
-// The same, to be written. A ghost field that says how many heads there are was tried, and isn't proved behind a slice that is lent.
+// The same, to be written, or to be read while other memory of the book is written. A ghost field that says how many heads there are was
+// tried, and isn't proved behind a slice that is lent.
 fn first_mut<T>(all: &mut [T], count: usize) -> &mut [T] {
     let count = count.min(all.len());
     &mut all[..count]
 }
 
-// The book of a script. A book has no body and no keys until they are asked for, and no keys after another body was. The memory of all
-// books that a script asks for is made once.
+// The book of a script, in lent memory. A book has no body and no keys until they are asked for, and no keys after another body was.
 #[derive(Drop)]
-pub struct Book {
+pub struct Book<'a> {
     // The largest body.
-    body: Vec<u8>,
+    body: &'a mut [u8],
     // How many bytes of it were asked for.
     size: usize,
     // The head words of the most keys, and the desk of each.
-    heads: Vec<u64>,
-    desks: Vec<u8>,
+    heads: &'a mut [u64],
+    desks: &'a mut [u8],
     // Below which key lines gave keys to desks.
     told: usize,
     // How many keys were asked for.
@@ -44,13 +43,10 @@ pub struct Book {
     ceiling: [u64; 16],
 }
 
-impl Book {
-    // Before a script asks for a book.
-    pub fn new(alloc: Global) -> Result<Self, AllocError> {
-        let body = vec![in alloc; 0; BODY_BYTES]?;
-        let heads = vec![in alloc; 0; KEYS]?;
-        let desks = vec![in alloc; 0; KEYS]?;
-        Ok(Book {
+impl<'a> Book<'a> {
+    // Before a script asks for a book, in memory for the largest body and the most keys, all of desk 0.
+    pub fn new(body: &'a mut [u8], heads: &'a mut [u64], desks: &'a mut [u8]) -> Self {
+        Book {
             body,
             size: 0,
             heads,
@@ -62,7 +58,7 @@ impl Book {
             counts: [0; 49],
             reserve: [0; 16],
             ceiling: [u64::MAX; 16],
-        })
+        }
     }
 
     // A body of so many bytes is asked for, which holds what the last one left there. What was told of desks is forgotten: all keys are of
@@ -70,7 +66,7 @@ impl Book {
     pub fn set_body(&mut self, bytes: usize) {
         self.size = bytes;
         self.keys = 0;
-        first_mut(&mut self.desks, self.told).fill(0);
+        first_mut(self.desks, self.told).fill(0);
         self.told = 0;
         self.reserve = [0; 16];
         self.ceiling = [u64::MAX; 16];
@@ -131,7 +127,7 @@ impl Book {
 }
 
 // The calls of a book, each for the desk of its key.
-impl Book {
+impl Book<'_> {
     // Makes the book fresh with so many keys, and tells the bytes of its body. Where that is refused, the state holds 0.
     pub fn make(&mut self, keys: usize) -> Result<usize, Turned<'static>> {
         self.has_body()?;
@@ -139,28 +135,31 @@ impl Book {
         self.mark = 0;
         self.free = [0; 9];
         self.counts = [0; 49];
+        let size = self.size;
         book_start::fresh(
-            first(&self.body, self.size),
-            first_mut(&mut self.heads, keys),
+            first_mut(self.body, size),
+            first_mut(self.heads, keys),
             &mut self.mark,
             &mut self.free,
             &mut self.counts,
-            first(&self.desks, keys),
+            first_mut(self.desks, keys),
             &self.reserve,
             &self.ceiling,
         )?;
-        Ok(self.size)
+        Ok(size)
     }
 
     // Loads a list onto a key, and tells how many pages that took.
     pub fn load(&mut self, fit: SlabFit, key: u64, list: &[u64]) -> Result<u64, Refusal> {
+        let (size, keys) = (self.size, self.keys);
+        let desk = desk_of(first(self.desks, keys), key);
         book_load::load(
-            first_mut(&mut self.body, self.size),
-            first_mut(&mut self.heads, self.keys),
+            first_mut(self.body, size),
+            first_mut(self.heads, keys),
             &mut self.mark,
             &mut self.free,
             &mut self.counts,
-            desk_of(first(&self.desks, self.keys), key),
+            desk,
             fit,
             key,
             list,
@@ -169,13 +168,15 @@ impl Book {
 
     // Appends a number to a key.
     pub fn append(&mut self, key: u64, n: u64) -> Result<AppendedTo, Refusal> {
+        let (size, keys) = (self.size, self.keys);
+        let desk = desk_of(first(self.desks, keys), key);
         book_append::append(
-            first_mut(&mut self.body, self.size),
-            first_mut(&mut self.heads, self.keys),
+            first_mut(self.body, size),
+            first_mut(self.heads, keys),
             &mut self.mark,
             &mut self.free,
             &mut self.counts,
-            desk_of(first(&self.desks, self.keys), key),
+            desk,
             key,
             n,
         )
@@ -183,50 +184,37 @@ impl Book {
 
     // Appends numbers to a key one after another, up to the first that is refused.
     pub fn extend(&mut self, key: u64, list: &[u64]) -> Result<ExtendedBy, Refusal> {
+        let (size, keys) = (self.size, self.keys);
+        let desk = desk_of(first(self.desks, keys), key);
         book_extend::extend(
-            first_mut(&mut self.body, self.size),
-            first_mut(&mut self.heads, self.keys),
+            first_mut(self.body, size),
+            first_mut(self.heads, keys),
             &mut self.mark,
             &mut self.free,
             &mut self.counts,
-            desk_of(first(&self.desks, self.keys), key),
+            desk,
             key,
             list,
         )
     }
 
-    // Reads a key into the start of a list, where there is room for all of it. While the list is shorter than the room and too short for
-    // the key, it grows, each time by as many numbers as a line has bytes: few keys are long, and memory is taken for those alone.
-    pub fn read(
-        &self,
-        key: u64,
-        room: usize,
-        list: &mut Vec<u64>,
-    ) -> Result<BookRead, Turned<'static>> {
-        for _ in 0..=NUMBERS / LINE_BYTES {
-            let lent = first_mut(list, room);
-            let is_short = lent.len() < room;
-            match book_read::read(self.body(), self.heads(), self.mark, key, lent) {
-                Err(Refusal::ListTooShort) if is_short => {
-                    list.reserve_exact(LINE_BYTES)?;
-                    list.resize(list.len().saturating_add(LINE_BYTES), 0)?;
-                }
-                read => return Ok(read?),
-            }
-        }
-        // Not reached: the list has room for every key by then.
-        Err(Turned::Refused(Refusal::ListTooShort))
+    // Reads a key into the start of a list, where there is room for all of it.
+    pub fn read(&self, key: u64, room: usize, list: &mut [u64]) -> Result<BookRead, Refusal> {
+        let lent = first_mut(list, room);
+        book_read::read(self.body(), self.heads(), self.mark, key, lent)
     }
 
     // Empties a key, and tells how many numbers it had.
     pub fn drop_key(&mut self, key: u64) -> Result<u64, Refusal> {
+        let (size, keys) = (self.size, self.keys);
+        let desk = desk_of(first(self.desks, keys), key);
         book_drop::drop(
-            first_mut(&mut self.body, self.size),
-            first_mut(&mut self.heads, self.keys),
+            first_mut(self.body, size),
+            first_mut(self.heads, keys),
             &mut self.mark,
             &mut self.free,
             &mut self.counts,
-            desk_of(first(&self.desks, self.keys), key),
+            desk,
             key,
         )
     }
@@ -240,19 +228,19 @@ impl Book {
             self.mark,
             self.free,
             &self.counts,
-            first(&self.desks, self.keys),
+            first(self.desks, self.keys),
             &mut work,
         )
     }
 
     // The bytes of the body.
     fn body(&self) -> &[u8] {
-        first(&self.body, self.size)
+        first(self.body, self.size)
     }
 
     // The head words of the keys.
     pub fn heads(&self) -> &[u64] {
-        first(&self.heads, self.keys)
+        first(self.heads, self.keys)
     }
 
     // Writes the mark and the freed blocks.

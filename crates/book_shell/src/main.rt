@@ -12,17 +12,17 @@ mod turned;
 
 use accounts::Book;
 use book_rules::SlabFit;
-use book_script::{Command, LINE_BYTES, Lines, Unread};
+use book_script::{BODY_BYTES, Command, KEYS, LINE_BYTES, LISTED, Lines, Unread};
 use judged::Judged;
 use std::io;
-use std::io::BufReader;
+use std::io::Read;
 use text::Unheard;
 use turned::Turned;
 
 // Loads a list onto a key.
 fn load<P: Print>(
     rt: &P,
-    book: &mut Book,
+    book: &mut Book<'_>,
     fit: SlabFit,
     key: u64,
     list: &[u64],
@@ -35,7 +35,7 @@ fn load<P: Print>(
 // Appends numbers to a key, up to the first that is refused.
 fn extend<P: Print>(
     rt: &P,
-    book: &mut Book,
+    book: &mut Book<'_>,
     key: u64,
     list: &[u64],
 ) -> Result<(), Turned<'static>> {
@@ -51,25 +51,24 @@ fn extend<P: Print>(
 // Reads the list of a key into a lent list, where there is room for all of it.
 fn read<P: Print>(
     rt: &P,
-    book: &Book,
+    book: &Book<'_>,
     key: u64,
     room: usize,
-    list: &mut Vec<u64>,
+    list: &mut [u64],
 ) -> Result<(), Turned<'static>> {
     book.is_made()?;
     let read = book.read(key, room, list)?;
-    let listed = list.as_slice();
-    book_script::listed(
-        rt,
-        listed.get(..read.length as usize).unwrap_or(listed),
-        read.pages,
-        read.padded,
-    )?;
+    let listed = list.get(..read.length as usize).unwrap_or(list);
+    book_script::listed(rt, listed, read.pages, read.padded)?;
     Ok(())
 }
 
 // Does what is asked for on the book, where there is one; all but a read, which a list is lent to.
-fn on_book<P: Print>(rt: &P, book: &mut Book, command: Command<'_>) -> Result<(), Turned<'static>> {
+fn on_book<P: Print>(
+    rt: &P,
+    book: &mut Book<'_>,
+    command: Command<'_>,
+) -> Result<(), Turned<'static>> {
     book.is_made()?;
     match command {
         Command::Load { key, list } => load(rt, book, SlabFit::Spare, key, list)?,
@@ -83,7 +82,7 @@ fn on_book<P: Print>(rt: &P, book: &mut Book, command: Command<'_>) -> Result<()
         Command::Places => book_script::places(rt, book.heads())?,
         Command::Check => {
             let judged = Judged(book.check()?);
-            println!(rt; "{judged}")?;
+            print!(rt; "{judged}")?;
         }
         _ => book.show_space(rt)?,
     }
@@ -91,7 +90,7 @@ fn on_book<P: Print>(rt: &P, book: &mut Book, command: Command<'_>) -> Result<()
 }
 
 // Does what is asked for; all but a read, which a list is lent to.
-fn act<P: Print>(rt: &P, book: &mut Book, command: Command<'_>) -> Result<(), Turned<'static>> {
+fn act<P: Print>(rt: &P, book: &mut Book<'_>, command: Command<'_>) -> Result<(), Turned<'static>> {
     match command {
         Command::Help => book_script::help(rt)?,
         Command::Body(bytes) => {
@@ -123,8 +122,8 @@ fn act<P: Print>(rt: &P, book: &mut Book, command: Command<'_>) -> Result<(), Tu
 fn answer<'a, P: Print>(
     rt: &P,
     line: Result<&'a [u8], Unread<'a>>,
-    list: &mut Vec<u64>,
-    book: &mut Book,
+    list: &mut [u64],
+    book: &mut Book<'_>,
 ) -> Result<(), Turned<'a>> {
     let text = line?;
     book_script::echo(rt, text)?;
@@ -169,13 +168,15 @@ impl Tally {
     }
 }
 
-// Does the lines of an input, one after another, until no more come. What can't be written is lost, and the next line is done.
-fn run<R: Print + Input + AllocGlobal>(rt: &R) -> io::Result<()> {
-    let out = Unheard(rt);
-    let mut lines = Lines::new(rt.alloc(), BufReader::new(rt.alloc(), rt.reader())?)?;
-    // A line has fewer numbers than bytes.
-    let mut list = vec![in rt.alloc(); 0; LINE_BYTES]?;
-    let mut book = Book::new(rt.alloc())?;
+// Does the lines of an input, one after another, until no more come. All memory is lent from here: it is none that could be refused.
+fn run<P: Print, I: Read>(rt: &P, input: &mut I) -> io::Result<()> {
+    let mut line = [0u8; LINE_BYTES];
+    let mut list = [0u64; LISTED];
+    let mut body = [0u8; BODY_BYTES];
+    let mut heads = [0u64; KEYS];
+    let mut desks = [0u8; KEYS];
+    let mut lines = Lines::new(input, &mut line);
+    let mut book = Book::new(&mut body, &mut heads, &mut desks);
     let mut tally = Tally {
         refused: 0,
         unread: 0,
@@ -184,12 +185,13 @@ fn run<R: Print + Input + AllocGlobal>(rt: &R) -> io::Result<()> {
         let Some(line) = lines.next_line() else {
             break;
         };
-        let done = answer(&out, line, &mut list, &mut book);
-        tally.count(&out, number, done)?;
+        let done = answer(rt, line, &mut list, &mut book);
+        tally.count(rt, number, done)?;
     }
-    book_script::ended(&out, tally.refused, tally.unread)
+    book_script::ended(rt, tally.refused, tally.unread)
 }
 
-fn main(rt: HostRuntime) -> io::Result<()> {
-    run(&rt)
+// What can't be written is lost, and the next line is done.
+fn main(rt: HostRuntime) {
+    let _ = run(&Unheard(&rt), &mut rt.stdin());
 }

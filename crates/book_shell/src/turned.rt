@@ -1,13 +1,12 @@
 // Why a line isn't answered as it asks.
 use book_script::Unread;
 use error::Refusal;
-use std::alloc::AllocError;
 use std::io;
 
 // Why a line isn't answered as it asks.
 #[derive(Drop)]
 pub enum Turned<'a> {
-    // Memory is short, or nothing can be written.
+    // Nothing can be written.
     Io(io::Error),
     // The line isn't understood.
     Unread(Unread<'a>),
@@ -20,12 +19,6 @@ pub enum Turned<'a> {
 impl From<io::Error> for Turned<'_> {
     fn from(e: io::Error) -> Self {
         Turned::Io(e)
-    }
-}
-
-impl From<AllocError> for Turned<'_> {
-    fn from(e: AllocError) -> Self {
-        Turned::Io(io::Error::from(e))
     }
 }
 

@@ -53,7 +53,7 @@ impl Count {
             return Ok(());
         }
         self.differ = self.differ.saturating_add(1);
-        println!(rt; "line {} differs", self.lines)
+        print!(rt; "line {} differs\n", self.lines)
     }
 
     // Writes the line of a file: its title, and what was counted.
@@ -64,7 +64,7 @@ impl Count {
             histories,
         } = *self;
         rt.write_all(title)?;
-        println!(rt; ": {histories} histories, {lines} lines replayed, {differ} differ")
+        print!(rt; ": {histories} histories, {lines} lines replayed, {differ} differ\n")
     }
 }
 

@@ -78,7 +78,7 @@ fn replay_all<P: Print>(rt: &P, text: &[u8]) -> io::Result<()> {
     for line in Pieces::new(text, b'\n') {
         if let Some(name) = title(line) {
             rt.write_all(name)?;
-            println!(rt; ": {answers} replayed, {differ} differ")?;
+            print!(rt; ": {answers} replayed, {differ} differ\n")?;
             answers = 0;
             differ = 0;
         } else {

@@ -13,7 +13,8 @@ fn show_write<'a, P: Print>(rt: &P, dst: &'a mut [u8], n: u64) -> io::Result<&'a
             Ok(form)
         }
         Err(refusal) => {
-            println!(rt; "write {n}: refused {}", u32::from(refusal))?;
+            print!(rt; "write {n}:")?;
+            println!(rt; " refused {}", u32::from(refusal))?;
             Ok(&[])
         }
     }
@@ -21,10 +22,10 @@ fn show_write<'a, P: Print>(rt: &P, dst: &'a mut [u8], n: u64) -> io::Result<&'a
 
 // Reads buf and shows the number with the length of its form, or the refusal.
 fn show_read<P: Print>(rt: &P, buf: &[u8]) -> io::Result<()> {
-    print!(rt; "read{}: ", Bytes(buf))?;
+    print!(rt; "read{}:", Bytes(buf))?;
     match compact::read_uleb128(buf) {
-        Ok(read) => println!(rt; "{}, length {}", read.value, read.len),
-        Err(refusal) => println!(rt; "refused {}", u32::from(refusal)),
+        Ok(read) => println!(rt; " {}, length {}", read.value, read.len),
+        Err(refusal) => println!(rt; " refused {}", u32::from(refusal)),
     }
 }
 
@@ -46,28 +47,28 @@ fn show_numbers<P: Print>(rt: &P, numbers: &[u64]) -> io::Result<()> {
 
 // The examples of the DWARF standard, version 5, section 7.6.
 fn dwarf_examples<P: Print>(rt: &P) -> io::Result<()> {
-    println!(rt; "DWARF's examples")?;
+    print!(rt; "DWARF's examples\n")?;
     show_numbers(rt, &[2, 127, 128, 129, 130, 12857])
 }
 
 // S1 to S5, which are ULEB128 forms, in their order.
 fn uleb128_specimens<P: Print>(rt: &P) -> io::Result<()> {
-    println!(rt; "S1")?;
+    print!(rt; "S1\n")?;
     show_numbers(rt, &[0, 128])?;
-    println!(rt; "S2")?;
+    print!(rt; "S2\n")?;
     show_numbers(rt, &[12857])?;
-    println!(rt; "S3")?;
+    print!(rt; "S3\n")?;
     show_read(rt, b"\x80\x00")?;
-    println!(rt; "S4")?;
+    print!(rt; "S4\n")?;
     show_read(rt, b"\xff\xff\xff\xff\xff\xff\xff\xff\xff\x02")?;
-    println!(rt; "S5")?;
+    print!(rt; "S5\n")?;
     show_read(rt, b"\x80\x80\x80\x80\x80\x80\x80\x80\x80\x80")?;
     show_read(rt, b"\x80\x80\x80\x80\x80\x80\x80\x80\x80\x80\x80")
 }
 
 // The last number of each length and the first of the next, and the largest of 64 bits.
 fn boundaries<P: Print>(rt: &P) -> io::Result<()> {
-    println!(rt; "Boundaries")?;
+    print!(rt; "Boundaries\n")?;
     let numbers: [u64; 19] = [
         127,
         128,
@@ -94,16 +95,21 @@ fn boundaries<P: Print>(rt: &P) -> io::Result<()> {
 
 // A number of two bytes where there is room for one.
 fn one_byte_of_room<P: Print>(rt: &P) -> io::Result<()> {
-    println!(rt; "One byte of room")?;
+    print!(rt; "One byte of room\n")?;
     let mut one = [0u8; 1];
     show_write(rt, &mut one, 128)?;
     Ok(())
 }
 
-fn main(rt: HostRuntime) -> io::Result<()> {
-    let out = Unheard(&rt);
-    dwarf_examples(&out)?;
-    uleb128_specimens(&out)?;
-    boundaries(&out)?;
-    one_byte_of_room(&out)
+// Shows all of them.
+fn show_all<P: Print>(rt: &P) -> io::Result<()> {
+    dwarf_examples(rt)?;
+    uleb128_specimens(rt)?;
+    boundaries(rt)?;
+    one_byte_of_room(rt)
+}
+
+// What can't be written is lost, and the next is shown.
+fn main(rt: HostRuntime) {
+    let _ = show_all(&Unheard(&rt));
 }

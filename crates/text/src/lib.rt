@@ -4,6 +4,7 @@
 ghost use Rattle.std.specs.Prelude.{◌≡◌, ℕ, ◌<◌, ◌≤◌, ◌≢◌, length, slice_index, IsOk};
 ghost use Rattle.std.specs.Iterator.{at_most};
 
+use std::fmt::{Formatter, InlineText};
 use std::{fmt, io};
 
 // The index of the first b from one index of a text up to another, or that other where there is none.
@@ -53,14 +54,15 @@ impl<'a> Iterator for Pieces<'a> {
     }
 }
 
-// Bytes that are written in hexadecimal, each with a space before it.
+// Bytes that are written in hexadecimal, each with a space before it, as a piece of three characters.
 #[derive(Clone, Copy)]
 pub struct Bytes<'a>(pub &'a [u8]);
 
 impl fmt::Display for Bytes<'_> {
     fn fmt<W: fmt::Write>(&self, f: &mut fmt::Formatter<W>) -> fmt::Result {
         for b in self.0 {
-            write!(f, " {b:02X}")?;
+            let piece = InlineText::<3>::of(format_args!(" {b:02X}"));
+            f.write_str(piece.as_str())?;
         }
         Ok(())
     }
@@ -80,22 +82,32 @@ impl fmt::Display for Numbers<'_> {
 }
 
 // Standard output, or another output, whose failures are passed over: what can't be written is lost, and the program goes on, with the
-// status of what it did.
+// status of what it did. Each piece of a text, which is a number or what stands before, between or behind numbers, is written by itself,
+// so that a full pipe loses no more than those for which it has no room.
 #[derive(Clone, Copy)]
 pub struct Unheard<'a, P>(pub &'a P);
+
+impl<P: Print> fmt::Write for Unheard<'_, P> {
+    fn write_str(&mut self, s: &str) -> fmt::Result
+        ensures { IsOk result }
+    {
+        let _ = self.0.write_all(s.as_bytes());
+        Ok(())
+    }
+}
 
 impl<P: Print> Print for Unheard<'_, P> {
     fn print<D: fmt::Display + Drop>(&self, value: D) -> io::Result<()>
         ensures { IsOk result }
     {
-        let _ = self.0.print(value);
+        let _ = Formatter::new(Unheard(self.0)).write(value);
         Ok(())
     }
 
     fn println<D: fmt::Display + Drop>(&self, value: D) -> io::Result<()>
         ensures { IsOk result }
     {
-        let _ = self.0.println(value);
+        let _ = Formatter::new(Unheard(self.0)).writeln(value);
         Ok(())
     }
 
