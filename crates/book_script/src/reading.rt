@@ -1,4 +1,6 @@
 // Reading a script line by line from an input, into lent room.
+ghost use Rattle.std.specs.Prelude.{◌+◌, ◌≤◌, length};
+
 use crate::reports::{LINE_BYTES, Unread};
 use std::io::Read;
 
@@ -29,9 +31,11 @@ enum Came {
 
 // Reads into room behind its first bytes, by one call that gives what is there, and tells how many bytes came: none at the end of the
 // input, or where reading fails.
-fn read_behind<R: Read>(input: &mut R, room: &mut [u8; LINE_BYTES], held: usize) -> usize {
-    let held = held.min(LINE_BYTES);
-    match input.read(&mut room[held..]) {
+fn read_behind<R: Read>(input: &mut R, room: &mut [u8; LINE_BYTES], held: usize) -> usize
+    ensures { held ≤ length room.old → held + result ≤ length room.old }
+{
+    let from = held.min(LINE_BYTES);
+    match input.read(&mut room[from..]) {
         Ok(count) => count,
         Err(_) => 0,
     }
